@@ -1,5 +1,6 @@
 -- A provider by plain data: what never changes in it, and what was done with it (OSSL_PROVIDER(3), provider(7)).
-use Rattle.std.specs.Prelude.{ℕ, ◌+◌, ◌-◌, ◌^◌, ◌<◌, ◌≤◌, Bool, IsTrue, List, [], ◌∷◌, ◌++◌, min, length}
+use Rattle.std.specs.Prelude.{ℕ, ◌+◌, ◌-◌, ◌^◌, ◌<◌, ◌≤◌, Bool, IsTrue, List, [], ◌∷◌, ◌++◌, length}
+use Rattle.ossl_base.specs.Causes.{count_after}
 use Rattle.ossl_provider.specs.declared.code.Code.{Code}
 use Rattle.ossl_provider.specs.declared.table.TableRow.{TableRow}
 use Rattle.ossl_provider.specs.Members.{is_distinct, without}
@@ -32,7 +33,7 @@ after_start s i = record s { up = s.up ++ i ∷ []; starts = s.starts + 1 }
 
 -- a refused start: the count is one greater, or stays at its greatest value
 abbrev pub after_refusal : Sheet → Sheet
-after_refusal s = record s { faults = min (s.faults + 1) (2 ^ 64 - 1) }
+after_refusal s = record s { faults = count_after s.faults }
 
 -- a stop: the instance is up no more
 abbrev pub after_stop : Sheet → ℕ → Sheet
