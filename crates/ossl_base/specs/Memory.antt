@@ -1,5 +1,5 @@
 -- Sources, sinks and files in memory: what contracts see of them, and what a call does.
-use Rattle.std.specs.Prelude.{ℕ, ◌+◌, ◌-◌, Bool, ◌&&◌, ◌||◌, cond, nat_eq, nat_lt, min, List, ◌++◌, length, take, drop, is_some, is_none}
+use Rattle.std.specs.Prelude.{ℕ, ◌-◌, Bool, ◌&&◌, ◌||◌, cond, nat_eq, nat_lt, min, List, ◌++◌, length, take, drop, is_some, is_none}
 use Rattle.ossl_base.specs.Causes.{count_after}
 use Rattle.ossl_base.specs.Files.{Entries, content_of}
 use Rattle.ossl_base.specs.Members.{is_in}

@@ -32,7 +32,9 @@ pub trait Files {
         ensures too_long { result ≡ Err FileRefusal.TooLong → IsLonger (entries self.old) name.now limit }
 
         // A name that is not there fails and is not counted; every other failure is.
-        ensures lacking { LacksName (entries self.old) name.now → (result ≡ Err FileRefusal.Failed) × (faults self.new ≡ faults self.old) }
-        ensures failed { result ≡ Err FileRefusal.Failed → Rose (faults self.old) (faults self.new) ⊎ LacksName (entries self.old) name.now }
+        ensures lacking { LacksName (entries self.old) name.now → result ≡ Err FileRefusal.Failed }
+        ensures uncounted { LacksName (entries self.old) name.now → faults self.new ≡ faults self.old }
+        ensures failed { result ≡ Err FileRefusal.Failed →
+            Rose (faults self.old) (faults self.new) ⊎ LacksName (entries self.old) name.now }
         ensures later { faults self.old ≤ faults self.new };
 }

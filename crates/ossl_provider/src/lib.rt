@@ -7,6 +7,8 @@ pub mod boxed;
 pub mod code;
 pub mod provider;
 pub mod table;
+#[cfg(test)]
+mod tests;
 
 pub use boxed::Boxed;
 pub use code::{Code, Operation};

@@ -36,9 +36,16 @@ impl Model for TableProvider {
 
     ghost Value = { TableView };
 
-    ghost view = { λ t. record { name = t.name; rows = t.rows.items; least_key = t.least_key; up = t.up.items; starts = t.starts } };
+    ghost view = { λ t. record {
+      name = t.name;
+      rows = t.rows.items;
+      least_key = t.least_key;
+      up = t.up.items;
+      starts = t.starts;
+    } };
 
-    ghost invariant = { λ t. (65536 ≤ vec_capacity t.up) × IsSheet (record { up = t.up.items; starts = t.starts; faults = 0 }) };
+    ghost invariant = { λ t. (65536 ≤ vec_capacity t.up)
+        × IsSheet (record { up = t.up.items; starts = t.starts; faults = 0 }) };
 }
 
 impl TableProvider {
@@ -50,7 +57,13 @@ impl TableProvider {
         rows: Vec<TableRow>,
         least_key: u64,
     ) -> Result<TableProvider, AllocError>
-        ensures made { IfOk result (λ table. table ≡ record { name = name; rows = rows.items; least_key = least_key; up = []; starts = 0 }) }
+        ensures made { IfOk result (λ table. table ≡ record {
+          name = name;
+          rows = rows.items;
+          least_key = least_key;
+          up = [];
+          starts = 0;
+        }) }
     {
         Ok(TableProvider {
             name,
