@@ -1,0 +1,5 @@
+pub mod Views
+pub mod Keeps
+pub mod Calls
+pub mod Passes
+pub mod AllBack

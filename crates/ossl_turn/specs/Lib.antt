@@ -1,0 +1,4 @@
+pub mod History
+pub mod Turn
+pub mod Kinds
+pub mod Passes
