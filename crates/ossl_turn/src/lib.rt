@@ -1,6 +1,6 @@
 //! One object, called by many threads in turn: any sequential object with a history becomes one that threads share.
 //! Each answered call stands in one history, at one point, with all that its caller had seen before it, and `close` gives the object back with that history.
-//! A ticket lock (Mellor-Crummey and Scott, 1991) on `atomic_table`. A call costs what the object's own call costs, and four atomic steps; nothing grows with the history.
+//! A ticket lock (Mellor-Crummey and Scott, 1991) on `atomic_table`. A call costs what the object's own call costs and a few atomic steps, whatever the length of the history and the number of passes; `close` takes a step a pass.
 #![tactic(auto)]
 
 mod entry;

@@ -7,8 +7,10 @@ use std::alloc::AllocError;
 
 /// A sequential object. An answered call appends one entry to its history, and a call that finds no memory appends none.
 pub trait Object: Send {
+    /// What is asked of it.
     type Call;
 
+    /// What it answers.
     type Reply;
 
     // What no call changes.

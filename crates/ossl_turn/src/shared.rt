@@ -75,9 +75,7 @@ impl<O: Object> Shared<O> {
             }
         }
     }
-}
 
-impl<O: Object> Shared<O> {
     /// Waits for its turn, and makes the call. Where there is no memory for it, the pass is as before.
     pub fn call<R: Wait>(
         &self,
@@ -107,9 +105,7 @@ impl<O: Object> Shared<O> {
             }
         }
     }
-}
 
-impl<O: Object> Shared<O> {
     /// Splits a new pass off the first one, for another caller. It takes no memory.
     pub fn split(&self, first: &mut Pass<O>) -> Result<Pass<O>, AllocError>
         requires pass { CameFrom self.now first.old }
@@ -128,9 +124,7 @@ impl<O: Object> Shared<O> {
             made: 0,
         })
     }
-}
 
-impl<O: Object> Shared<O> {
     /// Gives the object back, when all passes are back. It takes no memory.
     pub fn close(self, mut passes: Vec<Pass<O>, Global>) -> O
         requires from { All (CameFrom self) passes.items }
