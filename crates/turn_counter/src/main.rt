@@ -39,9 +39,9 @@ fn main(rt: HostRuntime) -> io::Result<()> {
     split_all(&shared, &mut first, &mut passes, callers);
     add_at_once(alloc, &rt, &shared, &mut passes, calls);
     let counter = close_all(shared, first, passes);
-    println!(rt;
-        "{} entries, total {}",
-        counter.entries().len(),
-        counter.total()
-    )
+    let entries = counter.entries().len();
+    if entries != callers.saturating_mul(calls) {
+        return Err(AllocError.into());
+    }
+    println!(rt; "{entries} entries, total {}", counter.total())
 }
