@@ -1,0 +1,121 @@
+-- The tables hold what the field gives, at each of the 256 bytes.
+use Rattle.std.proofs.Common.{◌≡◌, ℕ, ◌<◌, List, [], ◌∷◌, refl, sym, ap, ◌∙◌, slice_index, get_or, map, arith, length}
+use Rattle.std.specs.List.{range_with_len}
+use Rattle.std.specs.Int.{w32, to_be_bytes}
+use Rattle.std.proofs.lemmas.List.{get_or-map}
+use Rattle.std.proofs.lemmas.List.FromFn.{get_or-map-range_with_len}
+use Rattle.ossl_aes.specs.declared.tables.TheConstants.{SUB, UNSUB, ENC0, ENC1, ENC2, ENC3, DEC0, DEC1, DEC2, DEC3, ROUND_CONSTANTS}
+use Rattle.ossl_aes.specs.Cipher.{scaled}
+use Rattle.ossl_aes.specs.Field.{sub, unsub, times, power, mul}
+
+-- an entry of a table of a function's values
+tabled : {X : Type 0} (t : List X) (f : ℕ → X) (d : X) (n : ℕ) → t ≡ map f (range_with_len 0 n) → (b : ℕ) → b < n → get_or t b d ≡ f b
+tabled t f d n e b h = ap (λ (x : List _). get_or x b d) e ∙ get_or-map-range_with_len f 0 n b b d h (omega arith)
+
+sub_table : SUB ≡ map sub (range_with_len 0 256)
+unfolding sub times power
+sub_table = refl
+
+unsub_table : UNSUB ≡ map unsub (range_with_len 0 256)
+unfolding unsub times power
+unsub_table = refl
+
+pub sub_at : (b : ℕ) → b < 256 → slice_index SUB b ≡ sub b
+sub_at b h = tabled SUB sub 0 256 sub_table b h
+
+pub unsub_at : (b : ℕ) → b < 256 → slice_index UNSUB b ≡ unsub b
+unsub_at b h = tabled UNSUB unsub 0 256 unsub_table b h
+
+constant_table : ROUND_CONSTANTS ≡ map (power 2) (range_with_len 0 10)
+unfolding times power
+constant_table = refl
+
+pub constant_at : (n : ℕ) → n < 10 → slice_index ROUND_CONSTANTS n ≡ power 2 n
+constant_at n h = tabled ROUND_CONSTANTS (power 2) 0 10 constant_table n h
+
+undone_table : map (slice_index UNSUB) SUB ≡ map (λ b. b) (range_with_len 0 256)
+undone_table = refl
+
+-- the inverse S-box undoes the S-box
+pub undone : (b r : ℕ) → b < 256 → r < 256 → r ≡ sub b → unsub r ≡ b
+undone b r hb hr e =
+    sym (unsub_at r hr) ∙ ap (slice_index UNSUB) (e ∙ sym (sub_at b hb)) ∙ sym (get_or-map (slice_index UNSUB) SUB b 0 0 hb)
+    ∙ tabled (map (slice_index UNSUB) SUB) (λ n. n) 0 256 undone_table b hb
+
+-- the bytes of a column m n p q of a matrix times b
+abbrev pub part : ℕ → ℕ → ℕ → ℕ → ℕ → List ℕ
+part m n p q b = mul m b ∷ mul n b ∷ mul p b ∷ mul q b ∷ []
+
+-- a table of words over the S-box or its inverse
+module _ (t box : List ℕ) (m n p q : ℕ) (len : length box ≡ 256) (lent : length t ≡ 256) where
+  word_in : t ≡ map (scaled m n p q) box → (b : ℕ) → b < 256 → slice_index t b ≡ scaled m n p q (slice_index box b)
+  word_in e b h = ap (λ (x : List ℕ). slice_index x b) e ∙ get_or-map (scaled m n p q) box b 0 0 (omega arith)
+
+  bytes_in : map (to_be_bytes w32) t ≡ map (part m n p q) box → (b : ℕ) → b < 256 → to_be_bytes w32 (slice_index t b) ≡ part m n p q (slice_index box b)
+  bytes_in e b h =
+      sym (get_or-map (to_be_bytes w32) t b 0 [] (omega arith)) ∙ ap (λ (x : List (List ℕ)). get_or x b []) e
+      ∙ get_or-map (part m n p q) box b 0 [] (omega arith)
+
+pub enc0_word : (b : ℕ) → b < 256 → slice_index ENC0 b ≡ scaled 2 1 1 3 (sub b)
+unfolding times
+enc0_word b h = word_in ENC0 SUB 2 1 1 3 refl refl refl b h ∙ ap (scaled 2 1 1 3) (sub_at b h)
+
+pub enc0_bytes : (b : ℕ) → b < 256 → to_be_bytes w32 (slice_index ENC0 b) ≡ part 2 1 1 3 (sub b)
+unfolding times
+enc0_bytes b h = bytes_in ENC0 SUB 2 1 1 3 refl refl refl b h ∙ ap (part 2 1 1 3) (sub_at b h)
+
+pub enc1_word : (b : ℕ) → b < 256 → slice_index ENC1 b ≡ scaled 3 2 1 1 (sub b)
+unfolding times
+enc1_word b h = word_in ENC1 SUB 3 2 1 1 refl refl refl b h ∙ ap (scaled 3 2 1 1) (sub_at b h)
+
+pub enc1_bytes : (b : ℕ) → b < 256 → to_be_bytes w32 (slice_index ENC1 b) ≡ part 3 2 1 1 (sub b)
+unfolding times
+enc1_bytes b h = bytes_in ENC1 SUB 3 2 1 1 refl refl refl b h ∙ ap (part 3 2 1 1) (sub_at b h)
+
+pub enc2_word : (b : ℕ) → b < 256 → slice_index ENC2 b ≡ scaled 1 3 2 1 (sub b)
+unfolding times
+enc2_word b h = word_in ENC2 SUB 1 3 2 1 refl refl refl b h ∙ ap (scaled 1 3 2 1) (sub_at b h)
+
+pub enc2_bytes : (b : ℕ) → b < 256 → to_be_bytes w32 (slice_index ENC2 b) ≡ part 1 3 2 1 (sub b)
+unfolding times
+enc2_bytes b h = bytes_in ENC2 SUB 1 3 2 1 refl refl refl b h ∙ ap (part 1 3 2 1) (sub_at b h)
+
+pub enc3_word : (b : ℕ) → b < 256 → slice_index ENC3 b ≡ scaled 1 1 3 2 (sub b)
+unfolding times
+enc3_word b h = word_in ENC3 SUB 1 1 3 2 refl refl refl b h ∙ ap (scaled 1 1 3 2) (sub_at b h)
+
+pub enc3_bytes : (b : ℕ) → b < 256 → to_be_bytes w32 (slice_index ENC3 b) ≡ part 1 1 3 2 (sub b)
+unfolding times
+enc3_bytes b h = bytes_in ENC3 SUB 1 1 3 2 refl refl refl b h ∙ ap (part 1 1 3 2) (sub_at b h)
+
+pub dec0_word : (b : ℕ) → b < 256 → slice_index DEC0 b ≡ scaled 14 9 13 11 (unsub b)
+unfolding times
+dec0_word b h = word_in DEC0 UNSUB 14 9 13 11 refl refl refl b h ∙ ap (scaled 14 9 13 11) (unsub_at b h)
+
+pub dec0_bytes : (b : ℕ) → b < 256 → to_be_bytes w32 (slice_index DEC0 b) ≡ part 14 9 13 11 (unsub b)
+unfolding times
+dec0_bytes b h = bytes_in DEC0 UNSUB 14 9 13 11 refl refl refl b h ∙ ap (part 14 9 13 11) (unsub_at b h)
+
+pub dec1_word : (b : ℕ) → b < 256 → slice_index DEC1 b ≡ scaled 11 14 9 13 (unsub b)
+unfolding times
+dec1_word b h = word_in DEC1 UNSUB 11 14 9 13 refl refl refl b h ∙ ap (scaled 11 14 9 13) (unsub_at b h)
+
+pub dec1_bytes : (b : ℕ) → b < 256 → to_be_bytes w32 (slice_index DEC1 b) ≡ part 11 14 9 13 (unsub b)
+unfolding times
+dec1_bytes b h = bytes_in DEC1 UNSUB 11 14 9 13 refl refl refl b h ∙ ap (part 11 14 9 13) (unsub_at b h)
+
+pub dec2_word : (b : ℕ) → b < 256 → slice_index DEC2 b ≡ scaled 13 11 14 9 (unsub b)
+unfolding times
+dec2_word b h = word_in DEC2 UNSUB 13 11 14 9 refl refl refl b h ∙ ap (scaled 13 11 14 9) (unsub_at b h)
+
+pub dec2_bytes : (b : ℕ) → b < 256 → to_be_bytes w32 (slice_index DEC2 b) ≡ part 13 11 14 9 (unsub b)
+unfolding times
+dec2_bytes b h = bytes_in DEC2 UNSUB 13 11 14 9 refl refl refl b h ∙ ap (part 13 11 14 9) (unsub_at b h)
+
+pub dec3_word : (b : ℕ) → b < 256 → slice_index DEC3 b ≡ scaled 9 13 11 14 (unsub b)
+unfolding times
+dec3_word b h = word_in DEC3 UNSUB 9 13 11 14 refl refl refl b h ∙ ap (scaled 9 13 11 14) (unsub_at b h)
+
+pub dec3_bytes : (b : ℕ) → b < 256 → to_be_bytes w32 (slice_index DEC3 b) ≡ part 9 13 11 14 (unsub b)
+unfolding times
+dec3_bytes b h = bytes_in DEC3 UNSUB 9 13 11 14 refl refl refl b h ∙ ap (part 9 13 11 14) (unsub_at b h)
