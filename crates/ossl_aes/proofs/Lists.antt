@@ -1,7 +1,7 @@
--- A list of as many elements is the list of its elements.
-use Rattle.std.proofs.Common.{◌≡◌, ℕ, zero, suc, ◌+◌, ◌<◌, List, [], ◌∷◌, ◌++◌, length, slice_index, map, drop, bit_xor, refl, sym, arith, add-one, drop-cons}
+-- Lists of known length, and texts that are cut.
+use Rattle.std.proofs.Common.{◌-◌, ◌*◌, ◌∙◌, ap, take, append_assoc, ◌≡◌, ℕ, zero, suc, ◌+◌, ◌<◌, List, [], ◌∷◌, ◌++◌, length, slice_index, map, drop, bit_xor, refl, sym, arith, add-one, drop-cons}
 use Rattle.std.specs.List.{range_with_len}
-use Rattle.std.proofs.lemmas.List.{drop_all}
+use Rattle.std.proofs.lemmas.List.{drop_all, length-drop, take-append-drop, take_rest}
 use Rattle.ossl_aes.specs.Cipher.{add}
 
 -- the n elements from the place k on
@@ -32,3 +32,23 @@ pair_by_bytes a b la lb =
 -- what is left of a list at a place: its element, and the rest
 pub drop_more : (b : List ℕ) (i : ℕ) → i < length b → drop i b ≡ slice_index b i ∷ drop (i + 1) b
 drop_more b i h = rw (add-one, drop-cons b i 0 h) refl
+
+pub no_elements : (b : List ℕ) → length b ≡ 0 → b ≡ []
+no_elements [] h = refl
+no_elements (x ∷ b) h = absurd (omega arith)
+
+-- a text cut at a place
+pub cut_at : (k : ℕ) (xs r : List ℕ) → xs ++ r ≡ take k xs ++ (drop k xs ++ r)
+cut_at k xs r = ap (λ (x : List ℕ). x ++ r) (sym (take-append-drop k xs)) ∙ append_assoc (take k xs) (drop k xs) r
+
+-- a text cut at a place into two slices
+pub split : (k : ℕ) (xs r : List ℕ) → xs ++ r ≡ take k xs ++ (take (length xs - k) (drop k xs) ++ r)
+split k xs r = cut_at k xs r ∙ (λ i. take k xs ++ (sym (take_rest xs k) i ++ r))
+
+-- the length of the second
+pub length-rest : (k : ℕ) (xs : List ℕ) → length (take (length xs - k) (drop k xs)) ≡ length xs - k
+length-rest k xs = ap length (take_rest xs k) ∙ length-drop k xs
+
+-- the i-th block of a text, as a slice
+pub block_slice : (i : ℕ) (xs : List ℕ) → take (16 * i + 16 - 16 * i) (drop (16 * i) xs) ≡ take 16 (drop (16 * i) xs)
+block_slice i xs = let n : 16 * i + 16 - 16 * i ≡ 16 = omega arith in ap (λ (k : ℕ). take k (drop (16 * i) xs)) n

@@ -5,7 +5,7 @@ ghost use Rattle.ossl_aes.specs.Cipher.{add, schedule, cipher, inv_cipher};
 ghost use Rattle.ossl_aes.specs.State.{IsSize, AreInvMixed, state_of};
 
 use crate::block::Block;
-use crate::rounds::{dec_last, dec_round, enc_last, enc_round};
+use crate::rounds::{dec_last, dec_round, enc_last, enc_round, packed_state, words};
 use crate::schedule::{inv_mixed_word, temp_word, word};
 use std::marker::Model;
 
@@ -86,21 +86,19 @@ impl<const NK: usize, const WORDS: usize> Block for Aes<NK, WORDS> {
 
     #[inline]
     fn encrypt(&self, block: [u8; 16]) -> [u8; 16] {
-        let mut s = add(load(&block), round_key(&self.words, 0));
+        let mut s = packed_state(add(load(&block), round_key(&self.words, 0)));
         'round: for n in 1..NK + 6 {
-            let next = enc_round(s, round_key(&self.words, n));
-            s = next;
+            s = packed_state(enc_round(words(s), round_key(&self.words, n)));
         }
-        enc_last(s, round_key(&self.words, NK + 6))
+        enc_last(words(s), round_key(&self.words, NK + 6))
     }
 
     #[inline]
     fn decrypt(&self, block: [u8; 16]) -> [u8; 16] {
-        let mut s = add(load(&block), round_key(&self.words, NK + 6));
+        let mut s = packed_state(add(load(&block), round_key(&self.words, NK + 6)));
         'round: for n in 1..NK + 6 {
-            let next = dec_round(s, round_key(&self.inv_words, NK + 6 - n));
-            s = next;
+            s = packed_state(dec_round(words(s), round_key(&self.inv_words, NK + 6 - n)));
         }
-        dec_last(s, round_key(&self.words, 0))
+        dec_last(words(s), round_key(&self.words, 0))
     }
 }

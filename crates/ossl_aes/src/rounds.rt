@@ -4,7 +4,7 @@ ghost use Rattle.std.specs.Prelude.{◌≡◌, ◌<◌, List, [], ◌∷◌};
 ghost use Rattle.std.specs.Int.{w32, to_be_bytes};
 ghost use Rattle.ossl_aes.specs.Field.{sub, unsub};
 ghost use Rattle.ossl_aes.specs.Cipher.{add, column, enc_word, dec_word};
-ghost use Rattle.ossl_aes.specs.State.{state_of, round, last_round, inv_round, last_inv_round};
+ghost use Rattle.ossl_aes.specs.State.{state_of, words_of, round, last_round, inv_round, last_inv_round};
 
 use crate::tables::{DEC0, DEC1, DEC2, DEC3, ENC0, ENC1, ENC2, ENC3, SUB, UNSUB};
 
@@ -50,6 +50,39 @@ pub fn dec_word(row: u8, byte: u8) -> u32
         2 => DEC2[byte as usize],
         _ => DEC3[byte as usize],
     }
+}
+
+/// A state as it goes from round to round. Were it four words alike, the compiler would keep it in one vector register,
+/// from which each byte that indexes a table is slow to get.
+#[derive(Clone, Copy)]
+pub struct Packed {
+    pub(crate) first: u32,
+    pub(crate) second: u32,
+    pub(crate) last: u64,
+}
+
+#[inline(always)]
+pub fn packed_state(s: [u32; 4]) -> Packed
+    ensures { state_of (words_of result) ≡ state_of s }
+{
+    let [s0, s1, s2, s3] = s;
+    Packed {
+        first: s0,
+        second: s1,
+        last: s2 as u64 * 0x1_0000_0000 + s3 as u64,
+    }
+}
+
+#[inline(always)]
+pub fn words(s: Packed) -> [u32; 4]
+    ensures { result ≡ words_of s }
+{
+    [
+        s.first,
+        s.second,
+        (s.last / 0x1_0000_0000) as u32,
+        (s.last % 0x1_0000_0000) as u32,
+    ]
 }
 
 #[inline(always)]
