@@ -1,0 +1,5 @@
+use Rattle.std.proofs.Common.{◌≡◌, ℕ, ◌+◌, ◌-◌, ◌∷◌, ◌++◌, length, take, replicate}
+use Rattle.ossl_cmac.proofs.subkeys.completed_block.Given as goal
+
+abbrev pub invariant-loop-i : goal.invariant-loop-i
+invariant-loop-i l = (length l.last ≡ 16) × (take l.i l.last ≡ take l.fn.count l.fn.block ++ 0x80 ∷ replicate (l.i - (l.fn.count + 1)) 0)
