@@ -1,0 +1,23 @@
+//! Works out one algorithm on a message, for timing: `ossl_speed ALGORITHM LENGTH COUNT`.
+//! The message has LENGTH bytes, byte i being i modulo 256; it is taken in COUNT times from anew, in
+//! pieces of 16 KiB, and the last value is printed in hexadecimal. Work grows with LENGTH and COUNT.
+#![tactic(auto)]
+
+mod algorithm;
+mod message;
+mod words;
+
+use std::process::ExitCode;
+use std::{env, io};
+
+fn main(rt: HostRuntime) -> io::Result<ExitCode> {
+    let words: Vec<String> = env::args(&rt)?.skip(1).collect(rt.alloc())?;
+    let Some(work) = words::read_words(words.as_slice()) else {
+        println!(rt; "error usage")?;
+        return Ok(ExitCode::from(2));
+    };
+    let value = work.run();
+    let text = hex::encode(rt.alloc(), value.as_slice())?;
+    println!(rt; "{text}")?;
+    Ok(ExitCode::SUCCESS)
+}

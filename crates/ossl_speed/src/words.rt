@@ -1,0 +1,59 @@
+ghost use Rattle.std.specs.Prelude.{◌≡◌};
+ghost use Rattle.ossl_speed.specs.Message.{message, value_of};
+
+use crate::algorithm::{self, Algorithm};
+use crate::message;
+use ossl_digests::HashValue;
+
+/// The longest message in bytes.
+const LONGEST: usize = 1_073_741_824;
+
+/// What the words ask for: so many times the value of a message of so many bytes.
+#[derive(Drop)]
+pub struct Work {
+    algorithm: Algorithm,
+    length: usize,
+    count: usize,
+}
+
+impl Work {
+    /// The last value. Each is worked out from anew.
+    pub fn run(&self) -> HashValue
+        ensures { result ≡ value_of self.now.algorithm (message self.now.length) }
+    {
+        let piece = message::piece();
+        let mut value = message::value_of(self.algorithm, &piece, self.length);
+        for _i in 1..self.count {
+            value = message::value_of(self.algorithm, &piece, self.length);
+        }
+        value
+    }
+}
+
+/// The work that three words name: an algorithm, a length of at most 1,073,741,824 bytes, and a count
+/// of at least 1.
+pub fn read_words(words: &[String]) -> Option<Work> {
+    let [name, length, count] = words else {
+        return None;
+    };
+    let algorithm = algorithm::named(name.as_str())?;
+    let length = number(length.as_str())?;
+    let count = number(count.as_str())?;
+    if length > LONGEST || count == 0 {
+        return None;
+    }
+    Some(Work {
+        algorithm,
+        length,
+        count,
+    })
+}
+
+// A number in decimal digits alone.
+fn number(word: &str) -> Option<usize> {
+    if word.bytes().all(|b| b.is_ascii_digit()) {
+        word.parse::<usize>().ok()
+    } else {
+        None
+    }
+}
