@@ -1,0 +1,4 @@
+-- What the contracts of the crate cite.
+pub mod Block
+pub mod KeyStream
+pub mod Ends
