@@ -134,7 +134,7 @@ fn texts_and_bytes_keep_what_they_were_made_of(rt: HostRuntime) -> Result<(), Fa
 #[test]
 fn a_real_file_takes_and_gives_all(rt: HostRuntime) -> Result<(), Fail> {
     let alloc = rt.alloc();
-    let path = "/tmp/ossl_base_stream_test";
+    let path = "stream";
     let mut sink = StdSink::new(fs::create(&rt, path)?);
     write_all(&mut sink, SENTENCE).map_err(|_| "write failed")?;
     let mut source = StdSource::new(fs::open(&rt, path)?);

@@ -10,7 +10,7 @@ use lib.ListN.{get_elem?}
 use lib.Seq.{set-get_or}
 use Rattle.atomic_table.specs.Table.{State, Me, step, keeps, takes, gives, Allows, Splits, Joins, Seen, opening, Final}
 use Rattle.atomic_table.proofs.Lists.{at_set, at_longer, set_else, set_here, set_again, one_turn}
-use Rattle.ossl_turn.specs.declared.entry.Entry.{Entry}
+use Rattle.ossl_base.specs.declared.entry.Entry.{Entry}
 use Rattle.ossl_turn.specs.declared.rule.View.{View}
 use Rattle.ossl_turn.specs.declared.rule.Claim.{Claim}
 use Rattle.ossl_turn.specs.declared.rule.Stage.{Stage}

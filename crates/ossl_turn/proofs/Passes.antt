@@ -8,7 +8,7 @@ use mathlib.Core.Option.{some}
 use lib.ListN.{get_elem?}
 use Rattle.atomic_table.specs.Table.{Me, Final, Seen}
 use Rattle.atomic_table.specs.Seated.{TableId}
-use Rattle.ossl_turn.specs.declared.entry.Entry.{Entry}
+use Rattle.ossl_base.specs.declared.entry.Entry.{Entry}
 use Rattle.ossl_turn.specs.declared.rule.View.{View}
 use Rattle.ossl_turn.specs.declared.rule.Claim.{Claim}
 use Rattle.ossl_turn.specs.History.{IsHistory}

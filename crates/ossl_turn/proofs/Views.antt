@@ -5,7 +5,7 @@ use mathlib.Core.List.{IsPrefix}
 use lib.ListN.{get_elem?}
 use Rattle.std.proofs.lemmas.List.Elements.{filter-append}
 use Rattle.atomic_table.proofs.Lists.{set_else}
-use Rattle.ossl_turn.specs.declared.entry.Entry.{Entry}
+use Rattle.ossl_base.specs.declared.entry.Entry.{Entry}
 use Rattle.ossl_turn.specs.declared.rule.View.{View}
 use Rattle.ossl_turn.specs.declared.rule.Stage.{Stage}
 use Rattle.ossl_turn.specs.declared.rule.Stage.TheVariants.{Idle, Waiting, Turn}

@@ -1,6 +1,6 @@
 -- Histories: lists of answered calls, the oldest first.
 use Rattle.std.specs.Prelude.{◌≡◌, ℕ, List, ◌∷◌, ◌++◌, ◌==◌, Bool, filter}
-use Rattle.ossl_turn.specs.declared.entry.Entry.{Entry}
+use Rattle.ossl_base.specs.declared.entry.Entry.{Entry}
 
 module _ {C R : Type 0} where
   -- the call of this caller, answered so

@@ -2,7 +2,7 @@
 use Rattle.std.specs.Prelude.{◌≡◌, ◌≢◌, ℕ, ◌+◌, ◌%◌, ◌^◌, ◌≤◌, List, [], ◌∷◌, ◌++◌, true, false, All, Some, None, Result, IfOk, OnErr}
 use mathlib.Core.List.{IsPrefix}
 use Rattle.atomic_table.specs.Table.{Me, Step}
-use Rattle.ossl_turn.specs.declared.entry.Entry.{Entry}
+use Rattle.ossl_base.specs.declared.entry.Entry.{Entry}
 use Rattle.ossl_turn.specs.declared.rule.Stage.{Stage}
 use Rattle.ossl_turn.specs.declared.rule.Stage.TheVariants.{Idle, Waiting, Turn}
 use Rattle.ossl_turn.specs.declared.rule.View.{View}

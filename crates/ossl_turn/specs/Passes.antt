@@ -3,7 +3,7 @@ use Rattle.std.specs.Prelude.{◌≡◌, ℕ, ◌+◌, ◌<◌, ◌≤◌, List,
 use mathlib.Core.List.{IsPrefix}
 use Rattle.atomic_table.specs.Table.{Me}
 use Rattle.atomic_table.specs.Seated.{TableId}
-use Rattle.ossl_turn.specs.declared.entry.Entry.{Entry}
+use Rattle.ossl_base.specs.declared.entry.Entry.{Entry}
 use Rattle.ossl_turn.specs.declared.rule.View.{View}
 use Rattle.ossl_turn.specs.declared.rule.Claim.{Claim}
 use Rattle.ossl_turn.specs.declared.rule.Stage.TheVariants.{Idle}

@@ -3,7 +3,6 @@
 //! A ticket lock (Mellor-Crummey and Scott, 1991) on `atomic_table`. A call costs what the object's own call costs and a few atomic steps, whatever the length of the history and the number of passes; `close` takes a step a pass.
 #![tactic(auto)]
 
-mod entry;
 mod kinds;
 mod object;
 mod pass;
@@ -12,7 +11,7 @@ mod rule;
 mod shared;
 mod steps;
 
-pub use entry::Entry;
 pub use object::Object;
+pub use ossl_base::Entry;
 pub use pass::Pass;
 pub use shared::{ShareRefused, Shared};

@@ -1,6 +1,6 @@
 //! What threads can share: an object that keeps a history of its answered calls.
 ghost use Rattle.std.specs.Prelude.{◌≡◌, ℕ, List, [], ◌∷◌, ◌++◌, IfOk, OnErr, IsOk};
-ghost use Rattle.ossl_turn.specs.declared.entry.Entry.{Entry};
+ghost use Rattle.ossl_base.specs.declared.entry.Entry.{Entry};
 ghost use Rattle.ossl_turn.specs.History.{own_of, entry_of};
 
 use std::alloc::AllocError;

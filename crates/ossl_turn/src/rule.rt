@@ -1,7 +1,7 @@
 //! What a pass knows, and the rule of the turn. No value of these types is made: they exist in proofs alone.
-use crate::entry::Entry;
 use crate::object::Object;
 use atomic_table::TableRule;
+use ossl_base::Entry;
 use std::collections::LinkedList;
 use std::marker::PhantomData;
 use std::snapshot::Snapshot;

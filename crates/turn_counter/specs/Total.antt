@@ -1,6 +1,6 @@
 -- What a counter has counted.
 use Rattle.std.specs.Prelude.{ℕ, ◌%◌, ◌^◌, List, sum_by}
-use Rattle.ossl_turn.specs.declared.entry.Entry.{Entry}
+use Rattle.ossl_base.specs.declared.entry.Entry.{Entry}
 use Rattle.turn_counter.specs.declared.counter.Add.{Add}
 
 -- the sum of what the calls add, modulo 2^64

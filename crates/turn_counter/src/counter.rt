@@ -16,7 +16,7 @@ pub struct Counter {
 
 impl Model for Counter {
     ghost use Rattle.std.specs.Prelude.{◌≡◌, ℕ, List};
-    ghost use Rattle.ossl_turn.specs.declared.entry.Entry.{Entry};
+    ghost use Rattle.ossl_base.specs.declared.entry.Entry.{Entry};
     ghost use Rattle.turn_counter.specs.declared.counter.Add.{Add};
     ghost use Rattle.turn_counter.specs.Total.{total_of};
 

@@ -1,5 +1,3 @@
-//! An entry of a history.
-
 /// One answered call: who made it, what was asked, and the answer. A history is a list of these, the oldest first.
 #[derive(Drop, Debug, PartialEq, Eq)]
 pub struct Entry<C, R> {
