@@ -1,0 +1,36 @@
+-- Which instances are up before and after something goes.
+use Rattle.std.proofs.Common.{◌≡◌, ℕ, ◌+◌, ◌<◌, ◌≤◌, Bool, true, false, not, ◌||◌, List, [], ◌∷◌, length, refl, sym, ◌∙◌, ap, arith, suc, zero}
+use Rattle.std.proofs.Math.ListN.{set}
+use Rattle.std.specs.List.{list_any, filter}
+use Rattle.std.proofs.lemmas.Grind.{common_steps}
+use Rattle.ossl_provider.specs.Members.{is_in}
+use Rattle.ossl_calls.specs.declared.state.Born.{Born}
+use Rattle.ossl_calls.specs.declared.state.Going.{Going}
+use Rattle.ossl_calls.specs.declared.state.Going.TheVariants.{Element, Library}
+use Rattle.ossl_calls.specs.declared.state.Live.{Live}
+use Rattle.ossl_calls.specs.declared.state.State.{State}
+use Rattle.ossl_calls.specs.Going.{IsThere, without_going}
+use Rattle.ossl_calls.specs.State.{is_up, lib_at, up_at}
+use Rattle.ossl_calls.specs.Step.{closed_of, is_named}
+use Rattle.ossl_calls.proofs.ActiveLaws.{up_after_closing}
+use Rattle.ossl_calls.proofs.ListLaws.{any_fewer}
+use Rattle.ossl_calls.proofs.UpLaws.{numbers_at}
+
+-- an instance that is up once something has gone was up before
+pub is_up-without : (s : State) (going : Going) → IsThere s.libs going → (b : Born) → is_up (without_going s going) b ≡ true → is_up s b ≡ true
+is_up-without s (Element t) there b up = fewer _ _ _ (any_fewer (λ (x : Live). is_in b.number x.held) (λ x. not (is_named t x)) s.live) up
+  where
+    fewer : (a b c : Bool) → (b ≡ true → c ≡ true) → (a || b) ≡ true → (a || c) ≡ true
+    fewer a b c f h = grind (arith, common_steps)
+is_up-without s (Library l) there b up = up_after_closing s l (closed_of (lib_at s l)) there refl b up
+
+-- nothing that goes was born
+pub up_at-without : (s : State) (going : Going) (k : ℕ) → up_at (without_going s going) k ≡ numbers_at (is_up (without_going s going)) k s.born
+up_at-without s (Element t) k = refl
+up_at-without s (Library l) k = refl
+
+-- a library context replaced, and put back changed
+pub set_twice : {X : Type 0} (xs : List X) (i : ℕ) (a b : X) → set (set xs i a) i b ≡ set xs i b
+set_twice [] i a b = refl
+set_twice (x ∷ xs) zero a b = refl
+set_twice (x ∷ xs) (suc i) a b = ap (λ l. x ∷ l) (set_twice xs i a b)

@@ -1,0 +1,101 @@
+-- The state after a legal history is sound.
+use Rattle.std.proofs.Common.{◌≡◌, ℕ, ◌+◌, ◌<◌, ◌≤◌, ◌^◌, ◌-◌, Bool, true, false, not, ◌||◌, ◌&&◌, nat_eq, nat_lt, cond, List, [], ◌∷◌, ◌++◌, length, map, replicate, get_or, refl, sym, ◌∙◌, ap, subst, arith, append_assoc, suc, zero}
+use Rattle.std.specs.List.{list_all, filter}
+use Rattle.std.specs.Prelude.{None, Some, if◌then◌else◌}
+use Rattle.std.proofs.lemmas.Bool.{ltb-true, true≢false}
+use Rattle.std.proofs.lemmas.Grind.{common_steps}
+use Rattle.std.proofs.lemmas.List.{append-nil}
+use Rattle.std.proofs.lemmas.List.Folds.{list_any-append}
+use Rattle.ossl_base.specs.declared.entry.Entry.{Entry}
+use Rattle.ossl_provider.specs.Sheet.{Facts}
+use Rattle.ossl_calls.specs.declared.call.Call.{Call}
+use Rattle.ossl_calls.specs.declared.call.Call.TheVariants.{Fetch, NewCtx, Free, FreeCtx, CloseLib}
+use Rattle.ossl_calls.specs.declared.call.Reply.{Reply}
+use Rattle.ossl_calls.specs.declared.call.Reply.TheVariants.{Fetched, Made, Done, NoLib, StartRefused, Unsupported, NotAdmitted}
+use Rattle.ossl_calls.specs.declared.state.Born.{Born}
+use Rattle.ossl_calls.specs.declared.state.State.{State}
+use Rattle.ossl_calls.specs.Best.{best_method}
+use Rattle.ossl_calls.specs.History.{Fixed, IsStep, IsRun, IsLegal, IsNext, after_entry, state_from, state_after}
+use Rattle.ossl_calls.specs.Sound.{IsSound, HasSoundInstances, HasSoundElements, is_live, is_paired}
+use Rattle.ossl_calls.specs.State.{fresh_lib, no_lib, lib_at, opening_state}
+use Rattle.ossl_calls.specs.Step.{after_fallback, element_of, left_by, new_context, new_method, with_next, without_element, Answers}
+use Rattle.ossl_calls.specs.Tokens.{Token, activation_token, method_token, context_token, owns, entries_of, names_context}
+use Rattle.ossl_calls.proofs.ChoiceLaws.{method_up, context_up}
+use Rattle.ossl_calls.proofs.HistoryLaws.{left_by-next, IsLegal-last}
+use Rattle.ossl_calls.proofs.SoundLaws.{instances-more, instances-alike, instances-element, instances-without_element, instances-closed, instances-fallback}
+use Rattle.ossl_calls.proofs.TokenLaws.{fetched_some, admitted_some, elements_after, owns-push, owned_after}
+
+-- the instances and library contexts that a step leaves
+pub instances_after : (fixed : Fixed) (s : State) (c : ℕ) (call : Call) (reply : Reply) → names_context fixed.contexts call ≡ true → Answers fixed.facts s c call reply →
+    HasSoundInstances fixed s.next s → HasSoundInstances fixed (s.next + 1) (left_by fixed.facts s c call reply)
+instances_after fixed s c (Fetch l op name q) NoLib there a h = instances-more fixed s.next s h
+instances_after fixed s c (Fetch l op name q) (StartRefused p) there a h = instances-more fixed s.next s h
+instances_after fixed s c (Fetch l op name q) Unsupported there a h = instances-fallback fixed s l (ltb-true l fixed.contexts there) h
+instances_after fixed s c (Fetch l op name q) (Fetched n p i r code) there a h =
+    let f = after_fallback fixed.facts s l in
+    let sound = instances-fallback fixed s l (ltb-true l fixed.contexts there) h in
+    let chosen = fetched_some fixed.facts s.next n p i r code (best_method f l op name q) a.1 in
+    rw chosen.1 (instances-element fixed (s.next + 1) f (new_method f.next c chosen.0) (method_up fixed (s.next + 1) f l op name q chosen.0 sound chosen.1) sound)
+instances_after fixed s c (NewCtx t inner len) NotAdmitted there a h = instances-more fixed s.next s h
+instances_after fixed s c (NewCtx t inner len) (Made n) there a h =
+    let m = admitted_some fixed.facts len (element_of s t) a.0 in
+    rw m.1 (instances-element fixed (s.next + 1) s (new_context s c inner m.0) (λ b among held. context_up s c t inner m.0 m.1 b held) (instances-more fixed s.next s h))
+instances_after fixed s c (Free t) Done there a h = instances-more fixed s.next (without_element s t) (instances-without_element fixed s.next s t h)
+instances_after fixed s c (FreeCtx t) Done there a h = instances-more fixed s.next (without_element s t) (instances-without_element fixed s.next s t h)
+instances_after fixed s c (CloseLib l) NoLib there a h = instances-more fixed s.next s h
+instances_after fixed s c (CloseLib l) Done there a h =
+    let lib = ltb-true l fixed.contexts there in
+    instances-closed fixed (s.next + 1) s l (omega (arith, lib, h.contexts)) (instances-more fixed s.next s h)
+instances_after fixed s c call reply there a h = absurd a
+
+-- a step keeps soundness
+pub sound_after-entry : (fixed : Fixed) (s : State) (past : List (Entry Call Reply)) (e : Entry Call Reply) → IsSound fixed s past → IsStep fixed s past e →
+    IsSound fixed (after_entry fixed.facts s e) (past ++ e ∷ [])
+sound_after-entry fixed s past e h step =
+    let left = left_by fixed.facts s e.caller e.call e.reply in
+    let next : left.next ≡ s.next = left_by-next fixed.facts s e.caller e.call e.reply in
+    let sound = instances_after fixed s e.caller e.call e.reply step.allowed.lib step.answers h.instances in
+    record {
+      instances =
+          let P : ℕ → Type 0 = λ n. HasSoundInstances fixed n (with_next left) in
+          subst P (ap (λ n. n + 1) (sym next)) (instances-alike fixed (s.next + 1) left (with_next left) sound refl refl refl sound.paired);
+      elements = rw next (elements_after fixed.facts s e.caller e.call e.reply step.answers h.elements);
+      owned = λ c t token owned.
+          owned_after fixed.facts s (entries_of e.caller past) e.caller c t token e.call e.reply (owns (entries_of c past) t token)
+          step.answers h.elements step.allowed.tokens (h.owned e.caller) (h.owned c t token) (rw owns-push at owned);
+    }
+
+sound_from : (fixed : Fixed) (s : State) (past es : List (Entry Call Reply)) → IsSound fixed s past → IsRun fixed s past es → IsSound fixed (state_from fixed.facts s es) (past ++ es)
+sound_from fixed s past [] h run = rw append-nil h
+sound_from fixed s past (e ∷ es) h run =
+    rw (← append_assoc past (e ∷ []) es) (sound_from fixed (after_entry fixed.facts s e) (past ++ e ∷ []) es (sound_after-entry fixed s past e h run.0) run.1)
+
+-- in the opening state no provider is active
+fresh_orders : (n l : ℕ) → (get_or (replicate n fresh_lib) l no_lib).order ≡ []
+fresh_orders zero l = refl
+fresh_orders (suc n) zero = refl
+fresh_orders (suc n) (suc l) = fresh_orders n l
+
+length-replicate : (n : ℕ) → length (replicate n fresh_lib) ≡ n
+length-replicate zero = refl
+length-replicate (suc n) = omega (arith, length-replicate n)
+
+sound_opening : (fixed : Fixed) → IsSound fixed (opening_state fixed.contexts) []
+sound_opening fixed = record {
+  instances = record {
+    distinct = refl;
+    below = refl;
+    few = omega arith;
+    places = refl;
+    libs = refl;
+    contexts = length-replicate fixed.contexts;
+    paired = λ l. rw (fresh_orders fixed.contexts l) refl;
+    single = λ k. refl;
+  };
+  elements = record { distinct = refl; below = refl; few = omega arith };
+  owned = λ c t token owned. absurd (true≢false (sym owned));
+}
+
+-- the state after a legal history is sound
+pub sound_after : (fixed : Fixed) (es : List (Entry Call Reply)) → IsLegal fixed es → IsSound fixed (state_after fixed es) es
+sound_after fixed es legal = sound_from fixed (opening_state fixed.contexts) [] es (sound_opening fixed) legal

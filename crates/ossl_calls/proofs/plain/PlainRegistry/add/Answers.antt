@@ -1,0 +1,32 @@
+use Rattle.std.proofs.Common.{◌≡◌, map, sym, arith}
+use Rattle.ossl_base.specs.declared.entry.Entry.{Entry}
+use Rattle.ossl_calls.specs.declared.call.Call.{Call}
+use Rattle.ossl_calls.specs.declared.call.Reply.{Reply}
+use Rattle.ossl_calls.specs.declared.state.State.{State}
+use Rattle.ossl_calls.specs.Events.{Keeps}
+use Rattle.ossl_calls.specs.History.{Fixed, IsNext, state_after}
+use Rattle.ossl_calls.specs.Kept.{IsKept}
+use Rattle.ossl_calls.specs.Step.{with_element}
+use Rattle.std.proofs.lemmas.List.{length_push}
+use Rattle.ossl_calls.proofs.EventLaws.{IsKept-keeps, kept-next}
+use Rattle.ossl_calls.proofs.plain.PlainRegistry.add.Goals as goal
+
+pub overflow_add-self : goal.overflow_add-self
+overflow_add-self g c =
+    let inside = c.self.inside in
+    let fixed : Fixed = record { facts = map g.P.Provider.facts inside.boxes.items; contexts = inside.contexts; opened = inside.opened.items } in
+    let next = kept-next fixed (map g.P.Provider.sheet inside.boxes.items) inside.state inside.history.items c.self.invariant.0 in
+    omega (arith, next, inside.history.ok.0, inside.history.ok.1, inside.history.small)
+
+pub invariant_of-self-2 : goal.invariant_of-self-2
+invariant_of-self-2 g c =
+    let inside = c.self.inside in
+    let fixed : Fixed = record { facts = map g.P.Provider.facts inside.boxes.items; contexts = inside.contexts; opened = inside.opened.items } in
+    let sheets = map g.P.Provider.sheet inside.boxes.items in
+    let e : Entry Call Reply = record { caller = c.args.caller; call = c.args.call; reply = c.args.reply } in
+    let next : IsNext fixed inside.history.items e = rw (← c.self.view_is) at c.requires.step in
+    let keeps : Keeps fixed.facts (state_after fixed inside.history.items) e (with_element (state_after fixed inside.history.items) c.args.made) = rw (← c.self.view_is) at c.requires.keeps in
+    let here : Keeps fixed.facts (state_after fixed inside.history.items) e (with_element inside.state c.args.made) = rw c.self.invariant.0.is_after keeps in
+    let kept = IsKept-keeps fixed sheets inside.state inside.history.items e c.self.invariant.0 next (with_element inside.state c.args.made) here in
+    let longer = length_push inside.state.live c.args.made in
+    (rw (c.push_reserved.ensures.items, c.in_ok-reserve_room.ensures.items, c.in_ok-push.ensures.ok) kept, rw c.in_ok-push.ensures.ok (omega (arith, longer, c.push_reserved.ensures.len, c.push_reserved.ensures.capacity, c.in_ok-reserve_room.ensures.ok)))

@@ -1,0 +1,18 @@
+use Rattle.std.proofs.Common.{◌≡◌, map, sym, ◌∙◌}
+use Rattle.std.specs.Prelude.{None, Some}
+use Rattle.ossl_calls.specs.Best.{best_method}
+use Rattle.ossl_calls.specs.Registry.{fixed_of, state_of}
+use Rattle.ossl_calls.specs.State.{lib_at}
+use Rattle.ossl_calls.specs.Step.{fallback_of}
+use Rattle.ossl_calls.proofs.FetchLaws.{plain-keeps}
+use Rattle.ossl_calls.proofs.plain.PlainRegistry.fetch.Goals as goal
+
+pub add-requires-clause-keeps : goal.add-requires-clause-keeps
+add-requires-clause-keeps g c κs within =
+    let r = c.args.self.now in
+    let s = state_of g.P.Provider.facts r in
+    let chosen = c.in-Some-chosen.chosen in
+    let none : fallback_of (map g.P.Provider.facts r.boxes) (lib_at s c.args.lib) ≡ None = sym c.in_default.ensures.place in
+    let e : best_method s c.args.lib c.args.op c.args.name.now c.args.query.now ≡ Some chosen = (rw c.as_slice-bytes.ensures.bytes at (sym c.best-chosen.ensures)) ∙ c.in-Some-chosen.is in
+    rw (c.in_ok-copy.ensures.equal, c.in_ok-copy-2.ensures, c.in_ok-reply.ensures, c.in-Some-chosen.is, c.in_ok-made-in-Some-chosen.ensures)
+    (plain-keeps (fixed_of g.P.Provider.facts r) s c.args.caller c.args.lib c.args.op c.args.name.now c.args.query.now chosen c.fallback.ensures.sound.instances none e)

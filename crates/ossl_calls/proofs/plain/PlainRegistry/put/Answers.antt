@@ -1,0 +1,34 @@
+use Rattle.std.proofs.Common.{◌≡◌, map, sym, arith}
+use Rattle.ossl_base.specs.declared.entry.Entry.{Entry}
+use Rattle.ossl_calls.specs.declared.call.Call.{Call}
+use Rattle.ossl_calls.specs.declared.call.Reply.{Reply}
+use Rattle.ossl_calls.specs.declared.state.State.{State}
+use Rattle.ossl_calls.specs.Events.{Keeps}
+use Rattle.ossl_calls.specs.History.{Fixed, IsNext, state_after}
+use Rattle.ossl_calls.specs.Kept.{IsKept}
+use Rattle.ossl_calls.specs.Sound.{giving_back}
+use Rattle.std.proofs.Common.{◌≤◌, ◌+◌}
+use Rattle.ossl_calls.proofs.EventLaws.{IsKept-keeps, kept-next}
+use Rattle.ossl_calls.proofs.plain.PlainRegistry.put.Goals as goal
+
+pub overflow_add-self : goal.overflow_add-self
+overflow_add-self g c =
+    let inside = c.self.inside in
+    let fixed : Fixed = record { facts = map g.P.Provider.facts inside.boxes.items; contexts = inside.contexts; opened = inside.opened.items } in
+    let next = kept-next fixed (map g.P.Provider.sheet inside.boxes.items) inside.state inside.history.items c.self.invariant.0 in
+    let is : c.args.left.next ≡ (state_after fixed inside.history.items).next = rw (← c.self.view_is) at c.requires.next in
+    let own : c.args.left.next ≡ inside.state.next = rw c.self.invariant.0.is_after is in
+    omega (arith, next, inside.history.ok.0, inside.history.ok.1, inside.history.small, own)
+
+pub invariant_of-self-2 : goal.invariant_of-self-2
+invariant_of-self-2 g c =
+    let inside = c.self.inside in
+    let fixed : Fixed = record { facts = map g.P.Provider.facts inside.boxes.items; contexts = inside.contexts; opened = inside.opened.items } in
+    let sheets = map g.P.Provider.sheet inside.boxes.items in
+    let e : Entry Call Reply = record { caller = c.args.caller; call = c.args.call; reply = c.args.reply } in
+    let next : IsNext fixed inside.history.items e = rw (← c.self.view_is) at c.requires.step in
+    let keeps : Keeps fixed.facts (state_after fixed inside.history.items) e c.args.left = rw (← c.self.view_is) at c.requires.keeps in
+    let kept = IsKept-keeps fixed sheets inside.state inside.history.items e c.self.invariant.0 next c.args.left keeps in
+    let bound : giving_back c.args.left ≤ giving_back (state_after fixed inside.history.items) + 1 = rw (← c.self.view_is) at c.requires.room in
+    let room : giving_back c.args.left ≤ giving_back inside.state + 1 = rw c.self.invariant.0.is_after bound in
+    (rw (c.push_reserved.ensures.items, c.in_ok-reserve_room.ensures.items) kept, omega (arith, room, c.push_reserved.ensures.len, c.push_reserved.ensures.capacity, c.in_ok-reserve_room.ensures.ok))

@@ -1,0 +1,190 @@
+-- One step of the registry (provider(7), OSSL_PROVIDER(3)): where a reply may come, and what it leaves.
+use Rattle.std.specs.Prelude.{ℕ, ◌+◌, ◌≡◌, ⊤, Bool, true, false, ◌&&◌, nat_eq, not, IsTrue, IsFalse, if◌then◌else◌, List, [], ◌∷◌, ◌++◌, find, filter, None, Some}
+use Rattle.std.specs.Option.{option_map}
+use Rattle.std.specs.declared.option.Option.{Option}
+use Rattle.ossl_provider.specs.Sheet.{Facts}
+use Rattle.ossl_calls.specs.declared.call.Call.{Call}
+use Rattle.ossl_calls.specs.declared.call.Call.TheVariants.{Fetch, NewCtx, Free, FreeCtx, CloseLib}
+use Rattle.ossl_calls.specs.declared.call.Reply.{Reply}
+use Rattle.ossl_calls.specs.declared.call.Reply.TheVariants.{Fetched, Made, Done, NoLib, StartRefused, Unsupported, NotAdmitted}
+use Rattle.ossl_calls.specs.declared.state.Active.{Active}
+use Rattle.ossl_calls.specs.declared.state.Born.{Born}
+use Rattle.ossl_calls.specs.declared.state.Choice.{Choice}
+use Rattle.ossl_calls.specs.declared.state.Fallback.{Fallback}
+use Rattle.ossl_calls.specs.declared.state.Fallback.TheVariants.{Armed, Off, Used}
+use Rattle.ossl_calls.specs.declared.state.Kind.{Kind}
+use Rattle.ossl_calls.specs.declared.state.Kind.TheVariants.{Method, Context}
+use Rattle.ossl_calls.specs.declared.state.LibCtx.{LibCtx}
+use Rattle.ossl_calls.specs.declared.state.Live.{Live}
+use Rattle.ossl_calls.specs.declared.state.State.{State}
+use Rattle.ossl_calls.specs.Best.{best_method}
+use Rattle.ossl_calls.specs.Boxes.{facts_at, place_of, default_name}
+use Rattle.ossl_calls.specs.Rows.{Offer, offered}
+use Rattle.ossl_calls.specs.State.{lib_at, with_lib, is_active_box, is_held, up_in}
+
+-- 1. A provider becomes active in a library context.
+
+-- the instance of a box that was started in a library context and that a live element still holds
+abbrev pub held_instance : State → ℕ → ℕ → Option ℕ
+held_instance s l k = option_map (λ b. b.number) (find (λ b. nat_eq b.lib l && nat_eq b.place k && is_held b.number s.live) s.born)
+
+-- the pair of a box and its instance goes to the end of the order
+abbrev pub joined_of : LibCtx → ℕ → ℕ → LibCtx
+joined_of lib k n = record lib { order = lib.order ++ record { place = k; instance = n } ∷ [] }
+
+abbrev pub with_active : State → ℕ → ℕ → ℕ → State
+with_active s l k n = with_lib s l (joined_of (lib_at s l) k n)
+
+-- the instance that a start makes: its number is that of the entry
+abbrev pub new_instance : List Facts → State → ℕ → ℕ → Born
+new_instance facts s l k = let offer = offered (facts_at facts k).rows in record { number = s.next; lib = l; place = k; rows = offer.rows; skipped = offer.skipped }
+
+abbrev pub with_born : State → Born → State
+with_born s b = record s { born = s.born ++ b ∷ [] }
+
+abbrev pub with_instance : List Facts → State → ℕ → ℕ → Option ℕ → State
+with_instance facts s l k (Some n) = with_active s l k n
+with_instance facts s l k None = with_active (with_born s (new_instance facts s l k)) l k s.next
+
+-- nothing where the box is active there already; else its held instance goes on, or a new one is born
+abbrev pub after_activation : List Facts → State → ℕ → ℕ → State
+after_activation facts s l k = if is_active_box k (lib_at s l).order then s else with_instance facts s l k (held_instance s l k)
+
+-- 2. A fetch falls back to the provider `default`.
+
+abbrev pub is_armed : Fallback → Bool
+is_armed Armed = true
+is_armed Off = false
+is_armed Used = false
+
+abbrev pub used_of : LibCtx → LibCtx
+used_of lib = record lib { fallback = Used }
+
+abbrev pub with_fallback_used : State → ℕ → State
+with_fallback_used s l = with_lib s l (used_of (lib_at s l))
+
+-- the box that a fetch falls back to: the one of the name `default`, while the fallback is armed
+abbrev pub fallback_of : List Facts → LibCtx → Option ℕ
+fallback_of facts lib = if is_armed lib.fallback then place_of default_name facts else None
+
+abbrev pub after_fallback_to : List Facts → State → ℕ → Option ℕ → State
+after_fallback_to facts s l None = s
+after_fallback_to facts s l (Some k) = with_fallback_used (after_activation facts s l k) l
+
+-- the state in which a fetch looks: as it was where it does not fall back; else that box is active, and the fallback used
+abbrev pub after_fallback : List Facts → State → ℕ → State
+after_fallback facts s l = after_fallback_to facts s l (fallback_of facts (lib_at s l))
+
+-- a box may refuse its start only where a start is made: no instance of it that was started in this context is up
+abbrev pub MayRefuse : State → ℕ → Option ℕ → Type 0
+MayRefuse s l None = ⊥
+MayRefuse s l (Some k) = up_in s l k ≡ []
+
+-- 3. Live elements. Their owner is read by one word and set by another.
+
+abbrev pub owned_by : ℕ → ℕ
+owned_by c = c
+
+abbrev pub is_owned_by : ℕ → Live → Bool
+is_owned_by c x = nat_eq x.owner c
+
+-- the live element that a token names
+abbrev pub is_named : ℕ → Live → Bool
+is_named t x = nat_eq x.number t
+
+abbrev pub element_of : State → ℕ → Option Live
+element_of s t = find (is_named t) s.live
+
+abbrev pub with_element : State → Live → State
+with_element s x = record s { live = s.live ++ x ∷ [] }
+
+abbrev pub without_element : State → ℕ → State
+without_element s t = record s { live = filter (λ x. not (is_named t x)) s.live }
+
+-- a method holds the instance whose row was chosen
+abbrev pub new_method : ℕ → ℕ → Choice → Live
+new_method n c chosen = record { number = n; owner = owned_by c; kind = Method; held = chosen.instance ∷ []; place = chosen.place; row = chosen.row; code = chosen.code }
+
+-- None never comes where a fetch is answered
+abbrev pub with_method : State → ℕ → Option Choice → State
+with_method s c None = s
+with_method s c (Some chosen) = with_element s (new_method s.next c chosen)
+
+-- None never comes in a legal history
+abbrev pub held_by : Option Live → List ℕ
+held_by None = []
+held_by (Some x) = x.held
+
+abbrev pub held_by_inner : State → Option ℕ → List ℕ
+held_by_inner s None = []
+held_by_inner s (Some t) = held_by (element_of s t)
+
+-- an operation context has the method's provider, row and code, and holds the instances of the method and of the inner one
+abbrev pub new_context : State → ℕ → Option ℕ → Live → Live
+new_context s c inner m = record { number = s.next; owner = owned_by c; kind = Context; held = m.held ++ held_by_inner s inner; place = m.place; row = m.row; code = m.code }
+
+-- None never comes in a legal history
+abbrev pub with_context : State → ℕ → Option ℕ → Option Live → State
+with_context s c inner None = s
+with_context s c inner (Some m) = with_element s (new_context s c inner m)
+
+-- whether the box of a method admits its code with a key of this length; None never comes in a legal history
+abbrev pub admits : List Facts → ℕ → Option Live → Bool
+admits facts len None = false
+admits facts len (Some m) = (facts_at facts m.place).admits m.code len
+
+-- 4. A library context closes.
+
+abbrev pub closed_of : LibCtx → LibCtx
+closed_of lib = record lib { is_open = false; given = []; order = [] }
+
+abbrev pub with_closed : State → ℕ → State
+with_closed s l = with_lib s l (closed_of (lib_at s l))
+
+-- 5. The table of steps.
+
+-- what a fetch answers of its choice
+abbrev pub fetched_of : List Facts → ℕ → Option Choice → Reply
+fetched_of facts n None = Unsupported
+fetched_of facts n (Some chosen) = Fetched n (facts_at facts chosen.place).name chosen.instance chosen.row chosen.code
+
+-- where a reply to a call may come
+abbrev pub Answers : List Facts → State → ℕ → Call → Reply → Type 0
+Answers facts s c (Fetch l op name query) NoLib = IsFalse (lib_at s l).is_open
+Answers facts s c (CloseLib l) NoLib = IsFalse (lib_at s l).is_open
+Answers facts s c (Fetch l op name query) (StartRefused p) =
+    IsTrue (lib_at s l).is_open × IsTrue (is_armed (lib_at s l).fallback) × (p ≡ default_name) × MayRefuse s l (place_of default_name facts)
+Answers facts s c (Fetch l op name query) (Fetched n p i r code) =
+    IsTrue (lib_at s l).is_open × (Fetched n p i r code ≡ fetched_of facts s.next (best_method (after_fallback facts s l) l op name query))
+Answers facts s c (Fetch l op name query) Unsupported =
+    IsTrue (lib_at s l).is_open × (best_method (after_fallback facts s l) l op name query ≡ None)
+Answers facts s c (Free h) Done = ⊤
+Answers facts s c (FreeCtx h) Done = ⊤
+Answers facts s c (NewCtx h inner len) NotAdmitted = IsFalse (admits facts len (element_of s h))
+Answers facts s c (NewCtx h inner len) (Made n) = IsTrue (admits facts len (element_of s h)) × (n ≡ s.next)
+Answers facts s c (CloseLib l) Done = IsTrue (lib_at s l).is_open
+-- no other pair of call and reply is a step
+Answers facts s c call reply = ⊥
+
+-- what a call and its reply leave, but for the number of the next entry
+abbrev pub left_by : List Facts → State → ℕ → Call → Reply → State
+left_by facts s c (Fetch l op name query) NoLib = s
+left_by facts s c (CloseLib l) NoLib = s
+left_by facts s c (Fetch l op name query) (StartRefused p) = s
+left_by facts s c (Fetch l op name query) (Fetched n p i r code) = let f = after_fallback facts s l in with_method f c (best_method f l op name query)
+left_by facts s c (Fetch l op name query) Unsupported = after_fallback facts s l
+left_by facts s c (Free h) Done = without_element s h
+left_by facts s c (FreeCtx h) Done = without_element s h
+left_by facts s c (NewCtx h inner len) NotAdmitted = s
+left_by facts s c (NewCtx h inner len) (Made n) = with_context s c inner (element_of s h)
+left_by facts s c (CloseLib l) Done = with_closed s l
+-- no other pair of call and reply is a step
+left_by facts s c call reply = s
+
+-- the next entry has the next number
+abbrev pub with_next : State → State
+with_next s = record s { next = s.next + 1 }
+
+-- the state after an answered call
+abbrev pub after_call : List Facts → State → ℕ → Call → Reply → State
+after_call facts s c call reply = with_next (left_by facts s c call reply)

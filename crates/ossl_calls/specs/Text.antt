@@ -1,0 +1,41 @@
+-- The text of an entry, as a printed run shows it.
+use Rattle.std.specs.Prelude.{ℕ, List, [], ◌++◌, codes, None, Some}
+use Rattle.std.specs.Fmt.{decimal}
+use Rattle.std.specs.declared.option.Option.{Option}
+use Rattle.ossl_base.specs.declared.entry.Entry.{Entry}
+use Rattle.ossl_provider.specs.declared.code.Operation.{Operation}
+use Rattle.ossl_provider.specs.declared.code.Operation.TheVariants.{Digest}
+use Rattle.ossl_calls.specs.declared.call.Call.{Call}
+use Rattle.ossl_calls.specs.declared.call.Call.TheVariants.{Fetch, NewCtx, Free, FreeCtx, CloseLib}
+use Rattle.ossl_calls.specs.declared.call.Reply.{Reply}
+use Rattle.ossl_calls.specs.declared.call.Reply.TheVariants.{Fetched, Made, Done, NoLib, StartRefused, Unsupported, NotAdmitted}
+use Rattle.ossl_calls.specs.Query.{query_text}
+
+abbrev pub operation_text : Operation → List ℕ
+operation_text Digest = codes "digest"
+
+-- a token of an inner method, or a dash where there is none
+abbrev pub inner_text : Option ℕ → List ℕ
+inner_text None = codes "-"
+inner_text (Some t) = decimal t
+
+abbrev pub call_text : Call → List ℕ
+call_text (Fetch l op name query) =
+    codes "fetch " ++ decimal l ++ codes " " ++ operation_text op ++ codes " " ++ name ++ codes " [" ++ query_text query ++ codes "]"
+call_text (NewCtx h inner len) = codes "newctx " ++ decimal h ++ codes " " ++ inner_text inner ++ codes " " ++ decimal len
+call_text (Free h) = codes "free " ++ decimal h
+call_text (FreeCtx h) = codes "freectx " ++ decimal h
+call_text (CloseLib l) = codes "closelib " ++ decimal l
+
+abbrev pub reply_text : Reply → List ℕ
+reply_text (Fetched n p i r code) = codes "ok " ++ p ++ codes " " ++ decimal i ++ codes " " ++ decimal r
+reply_text (Made n) = codes "ok"
+reply_text Done = codes "ok"
+reply_text NoLib = codes "no context"
+reply_text (StartRefused p) = codes "start refused " ++ p
+reply_text Unsupported = codes "unsupported"
+reply_text NotAdmitted = codes "not admitted"
+
+-- the call, a colon, a space, and the reply
+abbrev pub entry_text : Entry Call Reply → List ℕ
+entry_text e = call_text e.call ++ codes ": " ++ reply_text e.reply

@@ -1,0 +1,176 @@
+ghost use Rattle.std.specs.Prelude.{◌≡◌, ◌<◌, length, map, position, slice_index_or, slice_set, IfOk, OnOk};
+ghost use Rattle.std.specs.Str.{bytes_eq};
+ghost use Rattle.ossl_calls.specs.Boxes.{default_name};
+ghost use Rattle.ossl_calls.specs.Events.{needs_birth};
+ghost use Rattle.ossl_calls.specs.Rows.{offered};
+ghost use Rattle.ossl_calls.specs.State.{is_active_box, no_lib};
+ghost use Rattle.ossl_calls.specs.Step.{after_activation, fallback_of, held_instance, is_armed, joined_of, used_of, with_fallback_used};
+
+use crate::copies::copy_state;
+use crate::items::Items;
+use crate::lookup::{is_held_instance, order_of};
+use crate::offer::offer;
+use crate::opening::fresh_lib;
+use crate::state::{Active, Born, Fallback, LibCtx, State};
+use ossl_provider::provider::Provider;
+use std::alloc::{AllocError, Global};
+
+fn is_active_place(order: &[Active], place: usize) -> bool
+    ensures { result ≡ is_active_box place order.now }
+{
+    order.iter().any(|a| a.place == place)
+}
+
+/// The instance of a box that was started in a library context and that a live element still holds.
+fn find_held(state: &State, lib: u64, place: usize) -> Option<u64>
+    ensures { result ≡ held_instance state.now lib place }
+{
+    let live = state.live.as_slice();
+    let born = state.born.as_slice();
+    born.iter()
+        .find(|b| b.lib == lib && b.place == place && is_held_instance(live, b.number))
+        .map(|b| b.number)
+}
+
+/// Whether an activation of a box starts it: it is not active in the library context, and no instance of it is held.
+pub fn needs_start(state: &State, lib: u64, place: usize) -> bool
+    ensures { result ≡ needs_birth state.now lib place }
+{
+    let order = order_of(state.libs.as_slice(), lib);
+    !is_active_place(order, place) && find_held(state, lib, place).is_none()
+}
+
+fn is_armed_fallback(fallback: Fallback) -> bool
+    ensures { result ≡ is_armed fallback }
+{
+    match fallback {
+        Fallback::Armed => true,
+        Fallback::Off => false,
+        Fallback::Used => false,
+    }
+}
+
+fn is_default<P: Provider>(provider: &P) -> bool
+    ensures { result ≡ bytes_eq (P.facts provider.now).name default_name }
+{
+    provider.name() == b"default".as_slice()
+}
+
+/// The place of the provider `default`.
+fn find_default<P: Provider>(boxes: &[P]) -> Option<usize>
+    ensures { result ≡ position (λ b. bytes_eq (P.facts b).name default_name) boxes.now }
+{
+    boxes.iter().position(|b| is_default(b))
+}
+
+fn fallback_at(libs: &[LibCtx], lib: u64) -> Fallback
+    ensures { result ≡ (slice_index_or libs.now lib no_lib).fallback }
+{
+    match libs.get(lib as usize) {
+        Some(lib) => lib.fallback,
+        None => Fallback::Off,
+    }
+}
+
+/// The place of the provider that a fetch in a library context falls back to.
+pub fn find_fallback<P: Provider>(boxes: &[P], libs: &[LibCtx], lib: u64) -> Option<usize>
+    ensures { result ≡ fallback_of (map P.facts boxes.now) (slice_index_or libs.now lib no_lib) }
+{
+    if is_armed_fallback(fallback_at(libs, lib)) {
+        find_default(boxes)
+    } else {
+        None
+    }
+}
+
+/// The instance that a start of a provider makes.
+fn new_instance<P: Provider>(
+    alloc: Global,
+    provider: &P,
+    number: u64,
+    lib: u64,
+    place: usize,
+) -> Result<Born, AllocError>
+    ensures { IfOk result (λ b. b ≡ (let offer = offered (P.facts provider.now).rows in
+        record { number = number; lib = lib; place = place; rows = offer.rows; skipped = offer.skipped })) }
+{
+    let offer = offer(alloc, provider)?;
+    Ok(Born {
+        number,
+        lib,
+        place,
+        rows: offer.rows,
+        skipped: offer.skipped,
+    })
+}
+
+/// Puts a provider and its instance at the end of a library context's order.
+fn join(
+    alloc: Global,
+    libs: &mut Items<LibCtx>,
+    lib: usize,
+    place: usize,
+    instance: u64,
+) -> Result<(), AllocError>
+    requires { lib < length libs.old }
+    ensures { OnOk result (libs.new ≡ slice_set libs.old lib (joined_of (slice_index_or libs.old lib no_lib) place instance)) }
+{
+    let mut was = libs.replace(lib, fresh_lib(alloc));
+    was.order.push(Active { place, instance })?;
+    libs.set(lib, was);
+    Ok(())
+}
+
+/// Marks the fallback of a library context as used.
+fn use_fallback(alloc: Global, libs: &mut Items<LibCtx>, lib: usize)
+    requires { lib < length libs.old }
+    ensures { libs.new ≡ slice_set libs.old lib (used_of (slice_index_or libs.old lib no_lib)) }
+{
+    let mut was = libs.replace(lib, fresh_lib(alloc));
+    was.fallback = Fallback::Used;
+    libs.set(lib, was);
+}
+
+/// Makes a provider active in a library context.
+fn activate<P: Provider>(
+    alloc: Global,
+    boxes: &[P],
+    state: &mut State,
+    lib: u64,
+    place: usize,
+) -> Result<(), AllocError>
+    requires lib { lib < length state.old.libs }
+    requires place { place < length boxes.now }
+    ensures { OnOk result (state.new ≡ after_activation (map P.facts boxes.now) state.old lib place) }
+{
+    if is_active_place(order_of(state.libs.as_slice(), lib), place) {
+        return Ok(());
+    }
+    let number = state.next;
+    match find_held(state, lib, place) {
+        Some(held) => join(alloc, &mut state.libs, lib as usize, place, held),
+        None => {
+            let b = new_instance(alloc, &boxes[place], number, lib, place)?;
+            state.born.push(b)?;
+            join(alloc, &mut state.libs, lib as usize, place, number)
+        }
+    }
+}
+
+/// The state in which a fetch looks that falls back to a provider.
+pub fn fall_back<P: Provider>(
+    alloc: Global,
+    boxes: &[P],
+    state: &State,
+    lib: u64,
+    place: usize,
+) -> Result<State, AllocError>
+    requires lib { lib < length state.now.libs }
+    requires place { place < length boxes.now }
+    ensures { IfOk result (λ left. left ≡ with_fallback_used (after_activation (map P.facts boxes.now) state.now lib place) lib) }
+{
+    let mut left = copy_state(alloc, state)?;
+    activate(alloc, boxes, &mut left, lib, place)?;
+    use_fallback(alloc, &mut left.libs, lib as usize);
+    Ok(left)
+}

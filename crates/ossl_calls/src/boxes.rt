@@ -1,0 +1,31 @@
+ghost use Rattle.std.specs.Prelude.{◌≡◌, ◌<◌, ◌^◌, ◌-◌, length, map, slice_set, IsTrue, IsFalse, OnOk, OnErr, vec_len};
+ghost use Rattle.ossl_provider.specs.Members.{is_in};
+ghost use Rattle.ossl_provider.specs.Sheet.{after_start, after_refusal, after_stop};
+ghost use Rattle.ossl_calls.specs.Boxes.{sheet_of};
+
+use ossl_provider::provider::{Provider, Refused};
+
+/// Starts the provider at a place. Its sheet alone changes.
+pub fn start_at<P: Provider>(boxes: &mut Vec<P>, place: usize, instance: u64) -> Result<(), Refused>
+    requires place { place < vec_len boxes.old }
+    requires fresh { IsFalse (is_in instance (sheet_of (map P.sheet boxes.old.items) place).up) }
+    requires room { length (sheet_of (map P.sheet boxes.old.items) place).up < 65536 }
+    requires few { (sheet_of (map P.sheet boxes.old.items) place).starts < 2 ^ 64 - 1 }
+    ensures facts { map P.facts boxes.new.items ≡ map P.facts boxes.old.items }
+    ensures ok { OnOk result (
+        map P.sheet boxes.new.items ≡ slice_set (map P.sheet boxes.old.items) place (after_start (sheet_of (map P.sheet boxes.old.items) place) instance)) }
+    ensures err { OnErr result (
+        map P.sheet boxes.new.items ≡ slice_set (map P.sheet boxes.old.items) place (after_refusal (sheet_of (map P.sheet boxes.old.items) place))) }
+{
+    boxes[place].start(instance)
+}
+
+/// Stops an instance of the provider at a place. Its sheet alone changes.
+pub fn stop_at<P: Provider>(boxes: &mut Vec<P>, place: usize, instance: u64)
+    requires place { place < vec_len boxes.old }
+    requires up { IsTrue (is_in instance (sheet_of (map P.sheet boxes.old.items) place).up) }
+    ensures facts { map P.facts boxes.new.items ≡ map P.facts boxes.old.items }
+    ensures sheets { map P.sheet boxes.new.items ≡ slice_set (map P.sheet boxes.old.items) place (after_stop (sheet_of (map P.sheet boxes.old.items) place) instance) }
+{
+    boxes[place].stop(instance);
+}

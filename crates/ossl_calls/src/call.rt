@@ -1,0 +1,152 @@
+ghost use Rattle.std.specs.Prelude.{◌≡◌, IfOk};
+ghost use Rattle.ossl_calls.specs.Query.{empty_query};
+
+use ossl_base::text::Text;
+use ossl_provider::code::{Code, Operation};
+use std::alloc::{AllocError, Global};
+
+/// What a fetch asks of the properties of a row (property(7)). There is only the empty query yet, which each row meets.
+#[derive(Drop)]
+pub struct Query;
+
+impl Query {
+    pub fn empty() -> Query
+        ensures { result ≡ empty_query }
+    {
+        Query
+    }
+
+    /// An equal query.
+    pub fn copy(&self, _alloc: Global) -> Result<Query, AllocError>
+        ensures { IfOk result (λ query. query ≡ self.now) }
+    {
+        Ok(Query)
+    }
+}
+
+/// A call of the registry. `lib` is the number of a library context (OSSL_LIB_CTX(3)), from 0; a token is the number
+/// of the entry that handed it out.
+#[derive(Drop)]
+pub enum Call {
+    /// Looks for the best method of a name (EVP_MD_fetch(3)).
+    Fetch {
+        lib: u64,
+        op: Operation,
+        name: Text,
+        query: Query,
+    },
+    /// Makes an operation context of a method, with the method of an inner algorithm where there is one.
+    NewCtx {
+        handle: u64,
+        inner: Option<u64>,
+        key_len: u64,
+    },
+    /// Gives a method back.
+    Free {
+        handle: u64,
+    },
+    /// Gives an operation context back.
+    FreeCtx {
+        handle: u64,
+    },
+    /// Closes a library context.
+    CloseLib {
+        lib: u64,
+    },
+}
+
+impl Call {
+    /// An equal call.
+    pub fn copy(&self, alloc: Global) -> Result<Call, AllocError>
+        ensures { IfOk result (λ call. call ≡ self.now) }
+    {
+        Ok(match self {
+            Call::Fetch {
+                lib,
+                op,
+                name,
+                query,
+            } => Call::Fetch {
+                lib: *lib,
+                op: *op,
+                name: name.copy(alloc)?,
+                query: query.copy(alloc)?,
+            },
+            Call::NewCtx {
+                handle,
+                inner,
+                key_len,
+            } => Call::NewCtx {
+                handle: *handle,
+                inner: *inner,
+                key_len: *key_len,
+            },
+            Call::Free { handle } => Call::Free { handle: *handle },
+            Call::FreeCtx { handle } => Call::FreeCtx { handle: *handle },
+            Call::CloseLib { lib } => Call::CloseLib { lib: *lib },
+        })
+    }
+}
+
+/// What the registry answers.
+#[derive(Drop)]
+pub enum Reply {
+    /// A method, with its token, and the provider, instance, row and code that it stands for.
+    Fetched {
+        number: u64,
+        provider: Text,
+        instance: u64,
+        row: u64,
+        code: Code,
+    },
+    /// A token was made.
+    Made {
+        number: u64,
+    },
+    /// The call was carried out.
+    Done,
+    /// The library context is closed.
+    NoLib,
+    /// The provider refused to start in this call.
+    StartRefused {
+        provider: Text,
+    },
+    /// No active provider has a row that the fetch may take.
+    Unsupported,
+    /// The provider does not admit the method's code with a key of this length.
+    NotAdmitted,
+}
+
+impl Reply {
+    /// An equal reply.
+    pub fn copy(&self, alloc: Global) -> Result<Reply, AllocError>
+        ensures { IfOk result (λ reply. reply ≡ self.now) }
+    {
+        Ok(match self {
+            Reply::Fetched {
+                number,
+                provider,
+                instance,
+                row,
+                code,
+            } => Reply::Fetched {
+                number: *number,
+                provider: provider.copy(alloc)?,
+                instance: *instance,
+                row: *row,
+                code: *code,
+            },
+            Reply::Made { number } => Reply::Made { number: *number },
+            Reply::Done => Reply::Done,
+            Reply::NoLib => Reply::NoLib,
+            Reply::StartRefused { provider } => Reply::StartRefused {
+                provider: provider.copy(alloc)?,
+            },
+            Reply::Unsupported => Reply::Unsupported,
+            Reply::NotAdmitted => Reply::NotAdmitted,
+        })
+    }
+}
+
+/// One answered call of the registry.
+pub type Entry = ossl_base::entry::Entry<Call, Reply>;

@@ -1,0 +1,56 @@
+ghost use Rattle.std.specs.Prelude.{◌≡◌, ◌<◌, ◌^◌, ℕ, map, replicate, slice_index, IfOk};
+ghost use Rattle.ossl_calls.specs.State.{fresh_lib, opening_state};
+
+use crate::call::Query;
+use crate::items::Items;
+use crate::state::{Fallback, LibCtx, State};
+use ossl_provider::provider::Provider;
+use std::alloc::{AllocError, Global};
+
+/// The count of faults of each box.
+pub fn counts_of<P: Provider>(alloc: Global, boxes: &[P]) -> Result<Vec<u64>, AllocError>
+    ensures counts { IfOk result (λ counts. counts.items ≡ map (λ b. (P.sheet b).faults) boxes.now) }
+    ensures fit { IfOk result (λ counts. (k : ℕ) → slice_index counts.items k < 2 ^ 64) }
+{
+    let mut counts = Vec::new(alloc);
+    for b in boxes {
+        counts.push(b.faults())?;
+    }
+    Ok(counts)
+}
+
+/// A library context at the start.
+pub fn fresh_lib(alloc: Global) -> LibCtx
+    ensures { result ≡ fresh_lib }
+{
+    LibCtx {
+        is_open: true,
+        fallback: Fallback::Armed,
+        default: Query::empty(),
+        order: Items::new(alloc),
+        given: Items::new(alloc),
+    }
+}
+
+/// So many library contexts, each as at the start.
+fn fresh_libs(alloc: Global, contexts: u64) -> Result<Items<LibCtx>, AllocError>
+    ensures { IfOk result (λ libs. libs ≡ replicate contexts fresh_lib) }
+{
+    let mut libs = Items::new(alloc);
+    for _ in 0..contexts {
+        libs.push(fresh_lib(alloc))?;
+    }
+    Ok(libs)
+}
+
+/// The state at the start.
+pub fn open_state(alloc: Global, contexts: u64) -> Result<State, AllocError>
+    ensures { IfOk result (λ state. state ≡ opening_state contexts) }
+{
+    Ok(State {
+        next: 1,
+        libs: fresh_libs(alloc, contexts)?,
+        born: Items::new(alloc),
+        live: Items::new(alloc),
+    })
+}

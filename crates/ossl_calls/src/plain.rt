@@ -1,0 +1,564 @@
+ghost use Rattle.std.specs.Prelude.{◌≡◌, ◌<◌, ◌≤◌, ◌+◌, ◌++◌, ◌∷◌, [], length, map, IsTrue, IsOk, IfOk, IfErr, OnErr};
+ghost use Rattle.ossl_calls.specs.Best.{best_method};
+ghost use Rattle.ossl_calls.specs.Boxes.{facts_at};
+ghost use Rattle.ossl_calls.specs.Events.{Keeps, Takes, Refuses, Bears, context_made, needs_birth};
+ghost use Rattle.ossl_calls.specs.Going.{without_going};
+ghost use Rattle.ossl_calls.specs.History.{IsLegal, IsAllowed, IsNext};
+ghost use Rattle.ossl_calls.specs.Registry.{IsCatalogue, HasSheets, are_apart, fixed_of, state_of, takes_no_memory};
+ghost use Rattle.ossl_calls.specs.Sound.{IsSound, giving_back};
+ghost use Rattle.ossl_calls.specs.State.{lib_at, up_instances};
+ghost use Rattle.ossl_calls.specs.Step.{after_activation, element_of, fallback_of, fetched_of, new_method, with_element, with_fallback_used};
+ghost use Rattle.ossl_calls.specs.Tokens.{entries_of};
+ghost use Rattle.ossl_calls.specs.declared.state.Born.{Born};
+
+use crate::activation::{fall_back, find_fallback, needs_start};
+use crate::best::best;
+use crate::boxes::start_at;
+use crate::call::{Call, Entry, Query, Reply};
+use crate::element::{context_of, give_method, make_method, name_at, reply_of};
+use crate::going::{stop_going, take_out};
+use crate::lookup::{is_open_lib, is_up_instance};
+use crate::opening::{counts_of, open_state};
+use crate::room::reserve_room;
+use crate::state::{Choice, Going, Live, State};
+use ossl_base::text::Text;
+use ossl_provider::boxed::Boxed;
+use ossl_provider::code::Operation;
+use ossl_provider::provider::Provider;
+use std::alloc::{AllocError, Global};
+use std::marker::Model;
+
+/// A registry that keeps plain lists: the definition's plain program. Its type keeps that the history is legal, that
+/// each box has done what the history says, and that there is room for the entries by which all is given back.
+///
+/// It looks at all instances and all live elements at each call.
+#[derive(Drop)]
+pub struct PlainRegistry<P: Provider = Boxed> {
+    alloc: Global,
+    boxes: Vec<P>,
+    opened: Vec<u64>,
+    contexts: u64,
+    state: State,
+    history: Vec<Entry>,
+}
+
+impl<P: Provider> Model for PlainRegistry<P> {
+    ghost use Rattle.std.specs.Prelude.{◌+◌, ◌≤◌, map, vec_len, vec_capacity};
+    ghost use Rattle.ossl_calls.specs.Kept.{IsKept};
+    ghost use Rattle.ossl_calls.specs.Registry.{Shown};
+    ghost use Rattle.ossl_calls.specs.Sound.{giving_back};
+
+    ghost Value = { Shown P };
+
+    ghost view = { λ r. record { boxes = r.boxes.items; opened = r.opened.items; contexts = r.contexts; entries = r.history.items } };
+
+    ghost invariant = { λ r.
+        IsKept (record { facts = map P.facts r.boxes.items; contexts = r.contexts; opened = r.opened.items })
+        (map P.sheet r.boxes.items) r.state r.history.items
+        × (vec_len r.history + giving_back r.state ≤ vec_capacity r.history) };
+}
+
+/// Want of memory at the opening of a registry, with the boxes that were handed in.
+#[derive(Drop)]
+pub struct OpenRefused<P: Provider = Boxed> {
+    pub catalogue: Vec<P>,
+}
+
+/// An instance that is up: its provider's place in the catalogue, and its number.
+#[derive(Debug, Clone, Copy, PartialEq, Eq)]
+pub struct Up {
+    pub place: usize,
+    pub number: u64,
+}
+
+impl<P: Provider> PlainRegistry<P> {
+    /// A registry over a catalogue of boxes, with 1 to 8 library contexts.
+    pub fn open(
+        alloc: Global,
+        catalogue: Vec<P>,
+        contexts: u64,
+    ) -> Result<PlainRegistry<P>, OpenRefused<P>>
+        requires catalogue { IsCatalogue (map P.facts catalogue.items) (map P.sheet catalogue.items) }
+        requires some { 1 ≤ contexts }
+        requires few { contexts ≤ 8 }
+        ensures ok { IfOk result (λ r. r ≡ record {
+          boxes = catalogue.items;
+          opened = map (λ b. (P.sheet b).faults) catalogue.items;
+          contexts = contexts;
+          entries = [];
+        }) }
+        ensures err { IfErr result (λ r. r.catalogue.items ≡ catalogue.items) }
+    {
+        let Ok(opened) = counts_of(alloc, catalogue.as_slice()) else {
+            return Err(OpenRefused { catalogue });
+        };
+        let Ok(state) = open_state(alloc, contexts) else {
+            return Err(OpenRefused { catalogue });
+        };
+        let mut history = Vec::new(alloc);
+        let Ok(()) = reserve_room(&mut history, &state, 0) else {
+            return Err(OpenRefused { catalogue });
+        };
+        Ok(PlainRegistry {
+            alloc,
+            boxes: catalogue,
+            opened,
+            contexts,
+            state,
+            history,
+        })
+    }
+
+    /// Makes a call for a caller, and appends its entry. A call that is refused memory leaves all as it was; the calls
+    /// that give something back are never refused it.
+    pub fn apply(&mut self, caller: u64, call: &Call) -> Result<Reply, AllocError>
+        requires allowed { IsAllowed (fixed_of P.facts self.old) (entries_of caller self.old.entries) call.now }
+
+        // One entry is appended, and it is a step of the definition.
+        ensures entry { IfOk result (λ reply.
+            self.new.entries ≡ self.old.entries ++ record { caller = caller; call = call.now; reply = reply } ∷ []) }
+        ensures legal { IsLegal (fixed_of P.facts self.new) self.new.entries }
+
+        // Each box has done what the history says: what is up, its starts, and its count of faults.
+        ensures sheets { HasSheets (fixed_of P.facts self.new) (map P.sheet self.new.boxes) self.new.entries }
+        ensures fixed { fixed_of P.facts self.new ≡ fixed_of P.facts self.old }
+        ensures err { OnErr result (self.new ≡ self.old) }
+        ensures no_memory { IsTrue (takes_no_memory (state_of P.facts self.old) call.now) → IsOk result }
+    {
+        let reply = match call {
+            Call::Fetch {
+                lib,
+                op,
+                name,
+                query,
+            } => self.fetch(caller, *lib, *op, name, query),
+            Call::NewCtx {
+                handle,
+                inner,
+                key_len,
+            } => self.new_ctx(caller, *handle, *inner, *key_len),
+            Call::Free { handle } => Ok(self.free(caller, *handle)),
+            Call::FreeCtx { handle } => Ok(self.free_ctx(caller, *handle)),
+            Call::CloseLib { lib } => self.close_lib(caller, *lib),
+        };
+        let _ = &self.history;
+        reply
+    }
+
+    /// The entries so far, each of them a step.
+    pub fn history(&self) -> &[Entry]
+        ensures entries { result.now ≡ self.now.entries }
+        ensures legal { IsLegal (fixed_of P.facts self.now) self.now.entries }
+        ensures sheets { HasSheets (fixed_of P.facts self.now) (map P.sheet self.now.boxes) self.now.entries }
+    {
+        self.history.as_slice()
+    }
+
+    /// The instances that are up, by increasing number.
+    pub fn up(&self) -> Result<Vec<Up>, AllocError>
+        ensures { IfOk result (λ ups.
+            ups.items ≡ map (λ b. record { place = b.place; number = b.number }) (up_instances (state_of P.facts self.now))) }
+    {
+        let state = &self.state;
+        let born = state.born.as_slice();
+        born.iter()
+            .filter(|b| is_up_instance(state, b))
+            .map(|b| Up {
+                place: b.place,
+                number: b.number,
+            })
+            .collect(self.alloc)
+    }
+
+    /// The name of the provider at a place of the catalogue, empty where there is none.
+    pub fn provider_name(&self, place: usize) -> &[u8]
+        ensures { result.now ≡ (facts_at (map P.facts self.now.boxes) place).name }
+    {
+        name_at(self.boxes.as_slice(), place)
+    }
+
+    /// The history, and the boxes as it left them.
+    pub fn close(self) -> (Vec<Entry>, Vec<P>)
+        ensures entries { result.0.items ≡ self.entries }
+        ensures boxes { result.1.items ≡ self.boxes }
+        ensures legal { IsLegal (fixed_of P.facts self) self.entries }
+        ensures sheets { HasSheets (fixed_of P.facts self) (map P.sheet self.boxes) self.entries }
+    {
+        let PlainRegistry {
+            alloc: _,
+            boxes,
+            opened: _,
+            contexts: _,
+            state: _,
+            history,
+        } = self;
+        (history, boxes)
+    }
+
+    /// Whether a library context is open.
+    fn is_open(&self, lib: u64) -> bool
+        ensures { result ≡ (lib_at (state_of P.facts self.now) lib).is_open }
+    {
+        is_open_lib(self.state.libs.as_slice(), lib)
+    }
+
+    /// The place of the provider that a fetch falls back to.
+    fn fallback(&self, lib: u64) -> Option<usize>
+        ensures place { result ≡ fallback_of (map P.facts self.now.boxes) (lib_at (state_of P.facts self.now) lib) }
+        ensures sound { IsSound (fixed_of P.facts self.now) (state_of P.facts self.now) self.now.entries }
+        ensures names { IsTrue (are_apart (map P.facts self.now.boxes)) }
+    {
+        find_fallback(self.boxes.as_slice(), self.state.libs.as_slice(), lib)
+    }
+
+    /// The best method of a name.
+    fn best(&self, lib: u64, op: Operation, name: &[u8], query: &Query) -> Option<Choice>
+        ensures { result ≡ best_method (state_of P.facts self.now) lib op name.now query.now }
+    {
+        best(&self.state, lib, op, name, query)
+    }
+
+    /// What a fetch answers of its choice.
+    fn reply_of(&self, chosen: Option<Choice>) -> Result<Reply, AllocError>
+        ensures { IfOk result (λ reply. reply ≡ fetched_of (map P.facts self.now.boxes) (state_of P.facts self.now).next chosen) }
+    {
+        reply_of(self.alloc, self.boxes.as_slice(), self.state.next, chosen)
+    }
+
+    /// The method of a chosen row.
+    fn method_of(&self, caller: u64, chosen: Choice) -> Result<Live, AllocError>
+        ensures { IfOk result (λ x. x ≡ new_method (state_of P.facts self.now).next caller chosen) }
+    {
+        make_method(self.alloc, self.state.next, caller, chosen)
+    }
+
+    /// The operation context of a method, where its provider admits it.
+    fn context_of(
+        &self,
+        caller: u64,
+        handle: u64,
+        inner: Option<u64>,
+        key_len: u64,
+    ) -> Result<Option<Live>, AllocError>
+        ensures { IfOk result (λ made. let s = state_of P.facts self.now in
+            made ≡ context_made (map P.facts self.now.boxes) s caller inner key_len (element_of s handle)) }
+    {
+        let boxes = self.boxes.as_slice();
+        context_of(
+            self.alloc,
+            boxes,
+            &self.state,
+            caller,
+            handle,
+            inner,
+            key_len,
+        )
+    }
+
+    /// The state in which a fetch looks that falls back to a provider, and whether the provider has to be started.
+    fn fall_back(&self, lib: u64, place: usize) -> Result<(State, bool), AllocError>
+        requires lib { lib < self.now.contexts }
+        requires place { place < length self.now.boxes }
+        ensures state { IfOk result (λ r.
+            r.0 ≡ with_fallback_used (after_activation (map P.facts self.now.boxes) (state_of P.facts self.now) lib place) lib) }
+        ensures starts { IfOk result (λ r. r.1 ≡ needs_birth (state_of P.facts self.now) lib place) }
+    {
+        let starts = needs_start(&self.state, lib, place);
+        let left = fall_back(self.alloc, self.boxes.as_slice(), &self.state, lib, place)?;
+        Ok((left, starts))
+    }
+
+    /// Looks for the best method of a name.
+    fn fetch(
+        &mut self,
+        caller: u64,
+        lib: u64,
+        op: Operation,
+        name: &Text,
+        query: &Query,
+    ) -> Result<Reply, AllocError>
+        requires allowed { IsAllowed (fixed_of P.facts self.old) (entries_of caller self.old.entries) (Call.Fetch lib op name.now query.now) }
+        ensures entry { IfOk result (λ reply. self.new.entries
+            ≡ self.old.entries ++ record { caller = caller; call = Call.Fetch lib op name.now query.now; reply = reply } ∷ []) }
+        ensures fixed { fixed_of P.facts self.new ≡ fixed_of P.facts self.old }
+        ensures err { OnErr result (self.new ≡ self.old) }
+    {
+        let call = Call::Fetch {
+            lib,
+            op,
+            name: name.copy(self.alloc)?,
+            query: query.copy(self.alloc)?,
+        };
+        let bytes = name.as_slice();
+        if !self.is_open(lib) {
+            return self.note(caller, call, Reply::NoLib);
+        }
+        if let Some(place) = self.fallback(lib) {
+            return self.fetch_falling(caller, call, lib, op, bytes, query, place);
+        }
+        let chosen = self.best(lib, op, bytes, query);
+        let reply = self.reply_of(chosen)?;
+        match chosen {
+            Some(chosen) => {
+                let made = self.method_of(caller, chosen)?;
+                self.add(caller, call, reply, made)
+            }
+            None => self.note(caller, call, reply),
+        }
+    }
+
+    /// Looks for the best method of a name in an open library context that falls back to a provider.
+    fn fetch_falling(
+        &mut self,
+        caller: u64,
+        call: Call,
+        lib: u64,
+        op: Operation,
+        name: &[u8],
+        query: &Query,
+        place: usize,
+    ) -> Result<Reply, AllocError>
+        requires is { call ≡ Call.Fetch lib op name.now query.now }
+        requires allowed { IsAllowed (fixed_of P.facts self.old) (entries_of caller self.old.entries) (Call.Fetch lib op name.now query.now) }
+        requires open { IsTrue (lib_at (state_of P.facts self.old) lib).is_open }
+        requires found { fallback_of (map P.facts self.old.boxes) (lib_at (state_of P.facts self.old) lib) ≡ Some place }
+        requires sound { IsSound (fixed_of P.facts self.old) (state_of P.facts self.old) self.old.entries }
+        requires names { IsTrue (are_apart (map P.facts self.old.boxes)) }
+        ensures entry { IfOk result (λ reply.
+            self.new.entries ≡ self.old.entries ++ record { caller = caller; call = call; reply = reply } ∷ []) }
+        ensures fixed { fixed_of P.facts self.new ≡ fixed_of P.facts self.old }
+        ensures err { OnErr result (self.new ≡ self.old) }
+    {
+        let (mut left, starts) = self.fall_back(lib, place)?;
+        let chosen = best(&left, lib, op, name, query);
+        let reply = self.reply_of(chosen)?;
+        give_method(self.alloc, &mut left, caller, chosen)?;
+        if starts {
+            let provider = Text::of(Vec::from_slice(self.alloc, b"default")?);
+            let refused = Reply::StartRefused { provider };
+            self.start(caller, call, place, left, reply, refused)
+        } else {
+            self.put(caller, call, reply, left)
+        }
+    }
+
+    /// Makes an operation context of a method.
+    fn new_ctx(
+        &mut self,
+        caller: u64,
+        handle: u64,
+        inner: Option<u64>,
+        key_len: u64,
+    ) -> Result<Reply, AllocError>
+        requires allowed { IsAllowed (fixed_of P.facts self.old) (entries_of caller self.old.entries) (Call.NewCtx handle inner key_len) }
+        ensures entry { IfOk result (λ reply. self.new.entries
+            ≡ self.old.entries ++ record { caller = caller; call = Call.NewCtx handle inner key_len; reply = reply } ∷ []) }
+        ensures fixed { fixed_of P.facts self.new ≡ fixed_of P.facts self.old }
+        ensures err { OnErr result (self.new ≡ self.old) }
+    {
+        let call = Call::NewCtx {
+            handle,
+            inner,
+            key_len,
+        };
+        match self.context_of(caller, handle, inner, key_len)? {
+            Some(made) => {
+                let number = made.number;
+                self.add(caller, call, Reply::Made { number }, made)
+            }
+            None => self.note(caller, call, Reply::NotAdmitted),
+        }
+    }
+
+    /// Gives a method back.
+    fn free(&mut self, caller: u64, handle: u64) -> Reply
+        requires allowed { IsAllowed (fixed_of P.facts self.old) (entries_of caller self.old.entries) (Call.Free handle) }
+        ensures entry { self.new.entries ≡ self.old.entries ++ record { caller = caller; call = Call.Free handle; reply = result } ∷ [] }
+        ensures fixed { fixed_of P.facts self.new ≡ fixed_of P.facts self.old }
+    {
+        let _ = &self.state;
+        self.take_down(
+            caller,
+            Call::Free { handle },
+            &Going::Element { token: handle },
+        )
+    }
+
+    /// Gives an operation context back.
+    fn free_ctx(&mut self, caller: u64, handle: u64) -> Reply
+        requires allowed { IsAllowed (fixed_of P.facts self.old) (entries_of caller self.old.entries) (Call.FreeCtx handle) }
+        ensures entry { self.new.entries ≡ self.old.entries ++ record { caller = caller; call = Call.FreeCtx handle; reply = result } ∷ [] }
+        ensures fixed { fixed_of P.facts self.new ≡ fixed_of P.facts self.old }
+    {
+        let _ = &self.state;
+        self.take_down(
+            caller,
+            Call::FreeCtx { handle },
+            &Going::Element { token: handle },
+        )
+    }
+
+    /// Closes a library context.
+    fn close_lib(&mut self, caller: u64, lib: u64) -> Result<Reply, AllocError>
+        requires allowed { IsAllowed (fixed_of P.facts self.old) (entries_of caller self.old.entries) (Call.CloseLib lib) }
+        ensures entry { IfOk result (λ reply.
+            self.new.entries ≡ self.old.entries ++ record { caller = caller; call = Call.CloseLib lib; reply = reply } ∷ []) }
+        ensures fixed { fixed_of P.facts self.new ≡ fixed_of P.facts self.old }
+        ensures err { OnErr result (self.new ≡ self.old) }
+        ensures no_memory { IsTrue (lib_at (state_of P.facts self.old) lib).is_open → IsOk result }
+    {
+        let call = Call::CloseLib { lib };
+        if self.is_open(lib) {
+            let going = Going::Library { lib: lib as usize };
+            Ok(self.take_down(caller, call, &going))
+        } else {
+            self.note(caller, call, Reply::NoLib)
+        }
+    }
+
+    /// Appends an entry that changes nothing but the number of the next one.
+    fn note(&mut self, caller: u64, call: Call, reply: Reply) -> Result<Reply, AllocError>
+        requires step { IsNext (fixed_of P.facts self.old) self.old.entries (record { caller = caller; call = call; reply = reply }) }
+        requires keeps { let s = state_of P.facts self.old in
+            Keeps (map P.facts self.old.boxes) s (record { caller = caller; call = call; reply = reply }) s }
+        ensures entry { IfOk result (λ answer.
+            self.new.entries ≡ self.old.entries ++ record { caller = caller; call = call; reply = answer } ∷ []) }
+        ensures fixed { fixed_of P.facts self.new ≡ fixed_of P.facts self.old }
+        ensures err { OnErr result (self.new ≡ self.old) }
+    {
+        let answer = reply.copy(self.alloc)?;
+        reserve_room(&mut self.history, &self.state, 1)?;
+        self.state.next += 1;
+        self.history.push_reserved(Entry {
+            caller,
+            call,
+            reply,
+        });
+        Ok(answer)
+    }
+
+    /// Appends an entry by which a live element is made, which holds only what is up.
+    fn add(
+        &mut self,
+        caller: u64,
+        call: Call,
+        reply: Reply,
+        made: Live,
+    ) -> Result<Reply, AllocError>
+        requires step { IsNext (fixed_of P.facts self.old) self.old.entries (record { caller = caller; call = call; reply = reply }) }
+        requires keeps { let s = state_of P.facts self.old in
+            Keeps (map P.facts self.old.boxes) s (record { caller = caller; call = call; reply = reply }) (with_element s made) }
+        ensures entry { IfOk result (λ answer.
+            self.new.entries ≡ self.old.entries ++ record { caller = caller; call = call; reply = answer } ∷ []) }
+        ensures fixed { fixed_of P.facts self.new ≡ fixed_of P.facts self.old }
+        ensures err { OnErr result (self.new ≡ self.old) }
+    {
+        let answer = reply.copy(self.alloc)?;
+        reserve_room(&mut self.history, &self.state, 2)?;
+        self.state.live.push(made)?;
+        self.state.next += 1;
+        self.history.push_reserved(Entry {
+            caller,
+            call,
+            reply,
+        });
+        Ok(answer)
+    }
+
+    /// Appends an entry that leaves a state in which the same instances are up.
+    fn put(
+        &mut self,
+        caller: u64,
+        call: Call,
+        reply: Reply,
+        left: State,
+    ) -> Result<Reply, AllocError>
+        requires step { IsNext (fixed_of P.facts self.old) self.old.entries (record { caller = caller; call = call; reply = reply }) }
+        requires keeps { Keeps (map P.facts self.old.boxes) (state_of P.facts self.old) (record { caller = caller; call = call; reply = reply }) left }
+        requires next { left.next ≡ (state_of P.facts self.old).next }
+        requires room { giving_back left ≤ giving_back (state_of P.facts self.old) + 1 }
+        ensures entry { IfOk result (λ answer.
+            self.new.entries ≡ self.old.entries ++ record { caller = caller; call = call; reply = answer } ∷ []) }
+        ensures fixed { fixed_of P.facts self.new ≡ fixed_of P.facts self.old }
+        ensures err { OnErr result (self.new ≡ self.old) }
+    {
+        let answer = reply.copy(self.alloc)?;
+        reserve_room(&mut self.history, &self.state, 2)?;
+        self.state = left;
+        self.state.next += 1;
+        self.history.push_reserved(Entry {
+            caller,
+            call,
+            reply,
+        });
+        Ok(answer)
+    }
+
+    /// Starts the provider at a place, and appends the entry of its answer: the accepted one, which leaves a state in
+    /// which the new instance is up, or the refused one, which leaves all as it was.
+    fn start(
+        &mut self,
+        caller: u64,
+        call: Call,
+        place: usize,
+        left: State,
+        accepted: Reply,
+        refused: Reply,
+    ) -> Result<Reply, AllocError>
+        requires next { IsNext (fixed_of P.facts self.old) self.old.entries (record { caller = caller; call = call; reply = accepted }) }
+        requires bears { (b : Born) × (b.place ≡ place) ×
+            Bears (map P.facts self.old.boxes) (state_of P.facts self.old) (record { caller = caller; call = call; reply = accepted }) left b }
+        requires number { left.next ≡ (state_of P.facts self.old).next }
+        requires room { giving_back left ≤ giving_back (state_of P.facts self.old) + 1 }
+        requires step { IsNext (fixed_of P.facts self.old) self.old.entries (record { caller = caller; call = call; reply = refused }) }
+        requires refuses { Refuses (map P.facts self.old.boxes) (state_of P.facts self.old) (record { caller = caller; call = call; reply = refused }) place }
+        ensures entry { IfOk result (λ answer.
+            self.new.entries ≡ self.old.entries ++ record { caller = caller; call = call; reply = answer } ∷ []) }
+        ensures fixed { fixed_of P.facts self.new ≡ fixed_of P.facts self.old }
+        ensures err { OnErr result (self.new ≡ self.old) }
+    {
+        let yes = Entry {
+            caller,
+            call: call.copy(self.alloc)?,
+            reply: accepted.copy(self.alloc)?,
+        };
+        let no = Entry {
+            caller,
+            call,
+            reply: refused.copy(self.alloc)?,
+        };
+        reserve_room(&mut self.history, &self.state, 2)?;
+        let number = self.state.next;
+        match start_at(&mut self.boxes, place, number) {
+            Ok(()) => {
+                self.state = left;
+                self.state.next += 1;
+                self.history.push_reserved(yes);
+                Ok(accepted)
+            }
+            Err(_) => {
+                self.state.next += 1;
+                self.history.push_reserved(no);
+                Ok(refused)
+            }
+        }
+    }
+
+    /// Appends an entry by which something goes, and stops each instance that goes with it.
+    fn take_down(&mut self, caller: u64, call: Call, going: &Going) -> Reply
+        requires step { IsNext (fixed_of P.facts self.old) self.old.entries (record { caller = caller; call = call; reply = Reply.Done }) }
+        requires takes { Takes (map P.facts self.old.boxes) (state_of P.facts self.old) (record { caller = caller; call = call; reply = Reply.Done }) going.now }
+        requires room { let s = state_of P.facts self.old in giving_back (without_going s going.now) + 1 ≤ giving_back s }
+        ensures entry { self.new.entries ≡ self.old.entries ++ record { caller = caller; call = call; reply = result } ∷ [] }
+        ensures fixed { fixed_of P.facts self.new ≡ fixed_of P.facts self.old }
+    {
+        stop_going(&mut self.boxes, &self.state, going);
+        take_out(self.alloc, &mut self.state, going);
+        self.history.push_reserved(Entry {
+            caller,
+            call,
+            reply: Reply::Done,
+        });
+        Reply::Done
+    }
+}
