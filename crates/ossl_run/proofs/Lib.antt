@@ -1,0 +1,7 @@
+-- Lemmas that several proofs share.
+pub mod PrintedLaws
+pub mod LineLaws
+pub mod OpenLaws
+pub mod HeldLaws
+pub mod DownLaws
+pub mod FinishLaws

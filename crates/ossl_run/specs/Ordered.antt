@@ -1,0 +1,34 @@
+-- A finished run: in which order the callers' calls stand in its history.
+use Rattle.std.specs.Prelude.{ℕ, ◌≡◌, List, [], ◌∷◌, ◌++◌, map, None}
+use Rattle.ossl_base.specs.declared.entry.Entry.{Entry}
+use Rattle.ossl_calls.specs.declared.call.Call.{Call}
+use Rattle.ossl_calls.specs.declared.call.Call.TheVariants.{CloseLib}
+use Rattle.ossl_calls.specs.declared.call.Reply.{Reply}
+use Rattle.ossl_calls.specs.Tokens.{entries_of}
+use Rattle.ossl_run.specs.Script.{Follows, next_call}
+
+-- the replies that entries carry
+abbrev pub replies_of : List (Entry Call Reply) → List Reply
+replies_of entries = map (λ e. e.reply) entries
+
+-- the line of caller 1, from its first call to its end
+pub record IsLine (entries : List (Entry Call Reply)) : Type 0 where
+  pub follows : Follows [] entries
+  pub ended : next_call (replies_of entries) ≡ None
+
+-- the program closes its one library context at the end
+abbrev pub closing_calls : List Call
+closing_calls = CloseLib 0 ∷ []
+
+-- the entries are the program's closing, by caller 0
+pub record IsClosing (entries : List (Entry Call Reply)) : Type 0 where
+  pub caller : entries_of 0 entries ≡ entries
+  pub calls : map (λ e. e.call) entries ≡ closing_calls
+
+-- a finished run is the line of caller 1, and then the closing
+pub record IsOrderedRun (entries : List (Entry Call Reply)) : Type 0 where
+  pub line : List (Entry Call Reply)
+  pub closing : List (Entry Call Reply)
+  pub parts : entries ≡ line ++ closing
+  pub made : IsLine line
+  pub closed : IsClosing closing

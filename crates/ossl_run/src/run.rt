@@ -1,0 +1,107 @@
+ghost use Rattle.std.specs.Prelude.{◌≡◌, ◌++◌, ◌∷◌, [], map, IfOk, OnOk};
+ghost use Rattle.ossl_calls.specs.History.{IsAllowed};
+ghost use Rattle.ossl_calls.specs.Registry.{fixed_of};
+ghost use Rattle.ossl_calls.specs.Tokens.{entries_of};
+ghost use Rattle.ossl_run.specs.Ordered.{IsLine, IsOrderedRun, replies_of};
+ghost use Rattle.ossl_run.specs.Script.{result_text};
+ghost use Rattle.ossl_run.specs.Printed.{lines_of, output_text, printed_run};
+
+use crate::print::put_line;
+use crate::script::{next_call_after, put_result};
+use ossl_base::digits::put_decimal;
+use ossl_calls::call::{Call, Reply};
+use ossl_calls::plain::PlainRegistry;
+use ossl_provider::provider::Provider;
+use std::alloc::{AllocError, Global};
+
+/// Makes one call, and appends the line of its entry to the lines of the history.
+fn perform<P: Provider>(
+    alloc: Global,
+    registry: &mut PlainRegistry<P>,
+    lines: &mut Vec<u8>,
+    caller: u64,
+    call: &Call,
+) -> Result<Reply, AllocError>
+    requires allowed { IsAllowed (fixed_of P.facts registry.old) (entries_of caller registry.old.entries) call.now }
+    requires printed { lines.old.items ≡ lines_of (fixed_of P.facts registry.old) registry.old.entries }
+    ensures entry { IfOk result (λ reply.
+        registry.new.entries ≡ registry.old.entries ++ record { caller = caller; call = call.now; reply = reply } ∷ []) }
+    ensures printed { OnOk result (lines.new.items ≡ lines_of (fixed_of P.facts registry.new) registry.new.entries) }
+    ensures fixed { fixed_of P.facts registry.new ≡ fixed_of P.facts registry.old }
+{
+    let before = registry.up()?;
+    let reply = registry.apply(caller, call)?;
+    let after = registry.up()?;
+    put_line(
+        alloc,
+        lines,
+        registry,
+        (caller, call, &reply),
+        before.as_slice(),
+        after.as_slice(),
+    )?;
+    Ok(reply)
+}
+
+/// Makes the calls of the line for caller 1, up to its end, and gives the replies.
+fn run_line<P: Provider>(
+    alloc: Global,
+    registry: &mut PlainRegistry<P>,
+    lines: &mut Vec<u8>,
+) -> Result<Vec<Reply>, AllocError>
+    requires fresh { registry.old.entries ≡ [] }
+    requires contexts { registry.old.contexts ≡ 1 }
+    requires printed { lines.old.items ≡ [] }
+    ensures line { OnOk result (IsLine registry.new.entries) }
+    ensures replies { IfOk result (λ replies. replies.items ≡ replies_of registry.new.entries) }
+    ensures printed { OnOk result (lines.new.items ≡ lines_of (fixed_of P.facts registry.new) registry.new.entries) }
+    ensures fixed { fixed_of P.facts registry.new ≡ fixed_of P.facts registry.old }
+{
+    let mut replies = Vec::new(alloc);
+    while let Some(call) = next_call_after(alloc, replies.as_slice())? {
+        let reply = perform(alloc, registry, lines, 1, &call)?;
+        replies.push(reply)?;
+    }
+    Ok(replies)
+}
+
+/// The whole output: how many entries there are, their lines, and the result of the line.
+fn whole_output(
+    alloc: Global,
+    count: u64,
+    lines: &[u8],
+    piece: &[u8],
+    replies: &[Reply],
+) -> Result<Vec<u8>, AllocError>
+    ensures { IfOk result (λ output. output.items ≡ output_text count lines.now (result_text piece.now replies.now)) }
+{
+    let mut output = Vec::new(alloc);
+    output.extend_from_slice(b"order ")?;
+    put_decimal(alloc, &mut output, count)?;
+    output.extend_from_slice(b"\n")?;
+    output.extend_from_slice(lines)?;
+    output.extend_from_slice(b"results 1\nline 1 ")?;
+    put_result(alloc, &mut output, piece, replies)?;
+    output.extend_from_slice(b"\n")?;
+    Ok(output)
+}
+
+/// Runs the line of caller 1 and the closing over a registry without entries, and gives the output.
+pub fn run_to_end<P: Provider>(
+    alloc: Global,
+    registry: &mut PlainRegistry<P>,
+    piece: &[u8],
+) -> Result<Vec<u8>, AllocError>
+    requires fresh { registry.old.entries ≡ [] }
+    requires contexts { registry.old.contexts ≡ 1 }
+    ensures ordered { OnOk result (IsOrderedRun registry.new.entries) }
+    ensures output { IfOk result (λ output.
+        output.items ≡ printed_run (fixed_of P.facts registry.new) piece.now registry.new.entries) }
+    ensures fixed { fixed_of P.facts registry.new ≡ fixed_of P.facts registry.old }
+{
+    let mut lines = Vec::new(alloc);
+    let replies = run_line(alloc, registry, &mut lines)?;
+    perform(alloc, registry, &mut lines, 0, &Call::CloseLib { lib: 0 })?;
+    let count = registry.history().len() as u64;
+    whole_output(alloc, count, lines.as_slice(), piece, replies.as_slice())
+}
