@@ -1,4 +1,4 @@
-use Rattle.std.proofs.Common.{◌≡◌, false, length, ◌≤◌, arith, length-append}
+use Rattle.std.proofs.Common.{◌≡◌, false, arith, length-append}
 use Rattle.ossl_provider.specs.Members.{is_in}
 use Rattle.ossl_provider.proofs.MembersLaws.{is_distinct-push}
 use Rattle.ossl_provider.proofs.table.TableProviderProvider.start.Goals as goal

@@ -1,4 +1,4 @@
-use Rattle.std.proofs.Common.{◌≡◌, ◌+◌, ◌-◌, ◌≤◌, true, length, arith}
+use Rattle.std.proofs.Common.{◌≡◌, ◌+◌, ◌-◌, true, length, arith}
 use Rattle.ossl_provider.specs.Members.{is_in, without}
 use Rattle.ossl_provider.proofs.MembersLaws.{is_distinct-without, length-without, length-without-le}
 use Rattle.ossl_provider.proofs.table.TableProviderProvider.stop.Goals as goal
