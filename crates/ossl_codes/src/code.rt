@@ -51,7 +51,7 @@ pub enum Code {
 impl Code {
     /// The operation that the algorithm is fetched for.
     pub fn operation(self) -> Operation
-        ensures { result ≡ operation_of self }
+        ensures operation { result ≡ operation_of self }
     {
         match self {
             Code::Sha1

@@ -1,0 +1,4 @@
+pub mod Name
+pub mod Groups
+pub mod Addition
+pub mod Index
