@@ -1,4 +1,6 @@
-//! Runs of batches: what is read, what is called, what is printed, and the top call.
+//! Runs of batches: the words, the one line, one caller's calls, the printed run, the refusals, and the top call `replay`.
+//! Promise: what is printed is one legal history of the registry and the standard's digest, and every other status has its cause.
+//! Batch, output and statuses are the project's own (docs/manual); the digest is FIPS 180-4's. Work grows with the bytes and the entries.
 #![tactic(auto)]
 
 pub mod line;
@@ -9,7 +11,6 @@ pub mod refusal;
 pub mod replay;
 pub mod run;
 pub mod script;
-pub mod words;
-
 #[cfg(test)]
 mod tests;
+pub mod words;

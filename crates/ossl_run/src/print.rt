@@ -47,7 +47,13 @@ fn put_change<P: Provider>(
     if is_up_among(others, up) {
         return Ok(());
     }
-    put_instance(alloc, out, word, registry.provider_name(up.place), up.number)
+    put_instance(
+        alloc,
+        out,
+        word,
+        registry.provider_name(up.place),
+        up.number,
+    )
 }
 
 /// Appends each instance of the first list that the second lacks.
@@ -99,7 +105,7 @@ pub fn put_line<P: Provider>(
 ) -> Result<(), AllocError>
     ensures { OnOk result (out.new.items ≡ out.old.items
         ++ entry_line (map P.facts registry.now.boxes) (length registry.now.entries)
-            (record { caller = made.entry.0; call = made.entry.1.now; reply = made.entry.2.now }) before.now after.now) }
+        (record { caller = made.entry.0; call = made.entry.1.now; reply = made.entry.2.now }) before.now after.now) }
 {
     let (caller, call, reply) = made;
     let number = registry.history().len() as u64;

@@ -43,7 +43,12 @@ fn put_error(alloc: Global, out: &mut Vec<u8>, reply: &Reply) -> Result<(), Allo
 }
 
 /// Appends the provider and the digest of the bytes that the line gives.
-fn put_digest(alloc: Global, out: &mut Vec<u8>, provider: &Text, piece: &[u8]) -> Result<(), AllocError>
+fn put_digest(
+    alloc: Global,
+    out: &mut Vec<u8>,
+    provider: &Text,
+    piece: &[u8],
+) -> Result<(), AllocError>
     ensures ok { OnOk result (out.new.items ≡ out.old.items ++ digest_text provider.now piece.now) }
 {
     let digest = Sha256::digest(piece);
@@ -54,7 +59,12 @@ fn put_digest(alloc: Global, out: &mut Vec<u8>, provider: &Text, piece: &[u8]) -
 }
 
 /// Appends the result of the line, from the bytes that it gives and the replies to its calls.
-pub fn put_result(alloc: Global, out: &mut Vec<u8>, piece: &[u8], replies: &[Reply]) -> Result<(), AllocError>
+pub fn put_result(
+    alloc: Global,
+    out: &mut Vec<u8>,
+    piece: &[u8],
+    replies: &[Reply],
+) -> Result<(), AllocError>
     ensures ok { OnOk result (out.new.items ≡ out.old.items ++ result_text piece.now replies.now) }
 {
     match replies {
