@@ -18,6 +18,8 @@ pub mod plain;
 pub mod put;
 mod room;
 pub mod state;
+#[cfg(test)]
+mod tests;
 
 pub use call::{Call, Entry, Query, Reply};
 pub use plain::{OpenRefused, PlainRegistry, Up};
