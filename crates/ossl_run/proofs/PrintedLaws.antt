@@ -11,11 +11,6 @@ use Rattle.ossl_calls.specs.History.{Fixed, after_entry, state_from, state_after
 use Rattle.ossl_calls.specs.State.{opening_state}
 use Rattle.ossl_run.specs.Printed.{entry_line, entry_lines, lines_of, ups_of}
 
-pub state_from-push : (facts : List Facts) (s : State) (es : List (Entry Call Reply)) (e : Entry Call Reply) →
-    state_from facts s (es ++ e ∷ []) ≡ after_entry facts (state_from facts s es) e
-state_from-push facts s [] e = refl
-state_from-push facts s (x ∷ es) e = state_from-push facts (after_entry facts s x) es e
-
 pub entry_lines-push : (facts : List Facts) (n m : ℕ) (s : State) (es : List (Entry Call Reply)) (e : Entry Call Reply) → m ≡ n + length es →
     entry_lines facts n s (es ++ e ∷ []) ≡ entry_lines facts n s es ++ entry_line facts m e (ups_of (state_from facts s es)) (ups_of (state_from facts s (es ++ e ∷ [])))
 entry_lines-push facts n m s [] e h =
