@@ -12,6 +12,7 @@ demo: build
 
 test:
 	rt ci
+	test -x $(PROGRAM) || $(MAKE) build
 	cases/run
 
 build:
