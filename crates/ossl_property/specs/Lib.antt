@@ -1,0 +1,9 @@
+pub mod Bytes
+pub mod Grammar
+pub mod Choosing
+pub mod Printed
+pub mod Names
+pub mod Reading
+pub mod Tokens
+pub mod Fault
+pub mod Said
