@@ -1,7 +1,7 @@
 -- A provider by plain data: what never changes in it, and what was done with it (OSSL_PROVIDER(3), provider(7)).
 use Rattle.std.specs.Prelude.{ℕ, ◌+◌, ◌-◌, ◌^◌, ◌<◌, ◌≤◌, Bool, IsTrue, List, [], ◌∷◌, ◌++◌, length}
 use Rattle.ossl_base.specs.Causes.{count_after}
-use Rattle.ossl_provider.specs.declared.code.Code.{Code}
+use Rattle.ossl_codes.specs.declared.code.Code.{Code}
 use Rattle.ossl_provider.specs.declared.table.TableRow.{TableRow}
 use Rattle.ossl_provider.specs.Members.{is_distinct, without}
 

@@ -1,7 +1,7 @@
 -- A provider whose rows stand in a table, as contracts see it.
-use Rattle.std.specs.Prelude.{ℕ, Bool, true, List}
-use Rattle.ossl_provider.specs.declared.code.Code.{Code}
-use Rattle.ossl_provider.specs.declared.code.Code.TheVariants.{Sha256}
+use Rattle.std.specs.Prelude.{ℕ, nat_le, Bool, true, List}
+use Rattle.ossl_codes.specs.declared.code.Code.{Code}
+use Rattle.ossl_codes.specs.declared.code.Code.TheVariants.{Hmac, Hkdf}
 use Rattle.ossl_provider.specs.declared.table.TableRow.{TableRow}
 use Rattle.ossl_provider.specs.Sheet.{Facts, Sheet}
 
@@ -15,7 +15,9 @@ pub record TableView : Type 0 where
 
 -- the admission rule: HMAC and HKDF with keys from `least` bytes on, every other code with any
 abbrev pub table_admits : ℕ → Code → ℕ → Bool
-table_admits least Sha256 len = true
+table_admits least Hmac len = nat_le least len
+table_admits least Hkdf len = nat_le least len
+table_admits least code len = true
 
 -- what never changes
 abbrev pub table_facts : TableView → Facts

@@ -4,13 +4,12 @@
 #![tactic(auto)]
 
 pub mod boxed;
-pub mod code;
 pub mod provider;
 pub mod table;
 #[cfg(test)]
 mod tests;
 
 pub use boxed::Boxed;
-pub use code::{Code, Operation};
+pub use ossl_codes::{Code, Operation};
 pub use provider::{Provider, Refused};
 pub use table::{TableProvider, TableRow};

@@ -2,7 +2,7 @@ ghost use Rattle.std.specs.Prelude.{◌≡◌, ◌<◌, ◌^◌, ◌+◌, ◌-�
 ghost use Rattle.ossl_provider.specs.Members.{is_in};
 ghost use Rattle.ossl_provider.specs.Sheet.{Facts, Sheet, IsSheet, after_start, after_refusal, after_stop, stops_of};
 
-use crate::code::Code;
+use ossl_codes::Code;
 
 /// A start that a provider refused. The provider counts it.
 #[derive(Debug, Drop)]

@@ -1,9 +1,9 @@
 ghost use Rattle.std.specs.Prelude.{◌≡◌, [], IfOk, vec_capacity};
 ghost use Rattle.ossl_provider.specs.Members.{without};
 
-use crate::code::Code;
 use crate::provider::{Provider, Refused};
 use ossl_base::text::Text;
+use ossl_codes::Code;
 use std::alloc::{AllocError, Global};
 use std::marker::Model;
 
@@ -24,6 +24,7 @@ pub struct TableRow {
 pub struct TableProvider {
     name: Text,
     rows: Vec<TableRow>,
+    /// The length in bytes from which on keys of HMAC and HKDF are admitted; 0 admits every key.
     least_key: u64,
     up: Vec<u64>,
     starts: u64,
@@ -49,8 +50,9 @@ impl Model for TableProvider {
 }
 
 impl TableProvider {
-    /// A provider with these rows and no instance up, which admits HMAC and HKDF with keys from
-    /// `least_key` bytes on and every other code with any. It reserves its 65,536 places.
+    /// A provider with these rows and no instance up. It admits HMAC and HKDF with keys of `least_key`
+    /// bytes or more, and every other code with any key or none; `least_key` 0 admits everything, and 14
+    /// is the 112 bits that SP 800-131A asks of a key. It reserves its 65,536 places.
     pub fn new(
         alloc: Global,
         name: Text,
@@ -102,9 +104,10 @@ impl Provider for TableProvider {
         self.rows[index].code
     }
 
-    fn admits(&self, code: Code, _key_len: u64) -> bool {
+    fn admits(&self, code: Code, key_len: u64) -> bool {
         match code {
-            Code::Sha256 => true,
+            Code::Hmac | Code::Hkdf => key_len >= self.least_key,
+            _ => true,
         }
     }
 

@@ -37,6 +37,16 @@ fn a_table_tells_its_rows(rt: HostRuntime) -> Result<(), Fail> {
 }
 
 #[test]
+fn hmac_and_hkdf_want_the_least_key(rt: HostRuntime) -> Result<(), Fail> {
+    let provider = one_row(rt.alloc())?;
+    for (code, at_13) in [(Code::Hmac, false), (Code::Hkdf, false), (Code::Cmac, true)] {
+        assert_eq!(rt; provider.admits(code, 13), at_13);
+        assert!(rt; provider.admits(code, 14));
+    }
+    Ok(())
+}
+
+#[test]
 fn a_table_starts_and_stops(rt: HostRuntime) -> Result<(), Fail> {
     let mut provider = one_row(rt.alloc())?;
     provider.start(1)?;
