@@ -1,7 +1,6 @@
 -- What is up once a library context has changed, and when a box may be started in one.
-use Rattle.std.proofs.Common.{◌≡◌, ℕ, ◌+◌, ◌<◌, Bool, true, false, not, ◌||◌, ◌&&◌, nat_eq, cond, List, [], ◌∷◌, ◌++◌, length, map, get_or, refl, sym, ◌∙◌, ap, arith, suc, zero, inl, inr}
-use Rattle.std.proofs.Math.ListN.{set}
-use Rattle.std.specs.List.{list_any, list_all, filter, find}
+use Rattle.std.proofs.Common.{◌≡◌, ℕ, ◌<◌, Bool, true, false, not, ◌||◌, ◌&&◌, nat_eq, List, [], ◌∷◌, length, map, refl, sym, ◌∙◌, arith, inl, inr}
+use Rattle.std.specs.List.{list_any, list_all, find}
 use Rattle.std.specs.Prelude.{None, Some}
 use Rattle.std.specs.declared.option.Option.{Option}
 use Rattle.std.specs.Option.{option_map}
@@ -9,15 +8,15 @@ use Rattle.std.proofs.lemmas.Bool.{cases_Bool, cases_eq, and_parts, eqb-true, eq
 use Rattle.std.proofs.Math.Bool.{or-false}
 use Rattle.std.proofs.lemmas.Grind.{common_steps}
 use Rattle.std.proofs.lemmas.List.{get_or-set_same, get_or-set_other}
-use Rattle.std.proofs.lemmas.List.Folds.{list_any-append, list_all-append}
-use Rattle.ossl_provider.specs.Members.{is_in, is_distinct}
+use Rattle.std.proofs.lemmas.List.Folds.{list_any-append}
+use Rattle.ossl_provider.specs.Members.{is_distinct}
 use Rattle.ossl_calls.specs.declared.state.Active.{Active}
 use Rattle.ossl_calls.specs.declared.state.Born.{Born}
 use Rattle.ossl_calls.specs.declared.state.LibCtx.{LibCtx}
 use Rattle.ossl_calls.specs.declared.state.State.{State}
 use Rattle.ossl_calls.specs.Sound.{is_paired, number_of_born}
 use Rattle.ossl_calls.specs.State.{no_lib, lib_at, with_lib, is_active, is_active_box, is_held, is_up, is_of_box, up_in}
-use Rattle.ossl_calls.specs.Step.{held_instance, with_active, with_born}
+use Rattle.ossl_calls.specs.Step.{held_instance, with_active}
 use Rattle.ossl_calls.proofs.ListLaws.{IsAmong, any_witness, any_both, find_none, find_some, filters_empty}
 
 -- one library context replaced

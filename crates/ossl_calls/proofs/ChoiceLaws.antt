@@ -1,6 +1,6 @@
 -- A chosen row is one of an instance that is active, so that the method of it holds what is up.
-use Rattle.std.proofs.Common.{◌≡◌, ℕ, ◌+◌, ◌<◌, Bool, true, false, not, ◌||◌, ◌&&◌, nat_eq, nat_lt, cond, List, [], ◌∷◌, ◌++◌, length, map, refl, sym, ◌∙◌, ap, arith, ◌⊎◌, inl, inr}
-use Rattle.std.specs.List.{list_any, list_all, filter, find, fold, flat_map}
+use Rattle.std.proofs.Common.{◌≡◌, ℕ, ◌+◌, ◌<◌, Bool, true, false, ◌&&◌, nat_eq, nat_lt, List, [], ◌∷◌, length, map, get_or, drop, refl, sym, ◌∙◌, ap, arith, suc, add-one, drop-cons, ◌⊎◌, inl, inr}
+use Rattle.std.specs.List.{list_any, list_all, filter, flat_map}
 use Rattle.std.specs.Prelude.{None, Some, if◌then◌else◌}
 use Rattle.std.specs.declared.option.Option.{Option}
 use Rattle.std.specs.Option.{option_map}
@@ -9,8 +9,10 @@ use Rattle.std.proofs.Math.Bool.{or-false}
 use Rattle.std.proofs.lemmas.Grind.{common_steps}
 use Rattle.std.proofs.lemmas.List.Folds.{list_any-append, list_all-append}
 use Rattle.ossl_provider.specs.Members.{is_in}
-use Rattle.ossl_provider.specs.declared.code.Operation.{Operation}
-use Rattle.ossl_calls.specs.declared.call.Query.{Query}
+use Rattle.ossl_codes.specs.declared.code.Operation.{Operation}
+use Rattle.ossl_names.specs.Groups.{number_of}
+use Rattle.ossl_property.specs.declared.clause.Clause.{Clause}
+use Rattle.ossl_property.specs.Choosing.{score_of}
 use Rattle.ossl_calls.specs.declared.state.Active.{Active}
 use Rattle.ossl_calls.specs.declared.state.Born.{Born}
 use Rattle.ossl_calls.specs.declared.state.Choice.{Choice}
@@ -18,7 +20,7 @@ use Rattle.ossl_calls.specs.declared.state.Live.{Live}
 use Rattle.ossl_calls.specs.declared.state.Offered.{Offered}
 use Rattle.ossl_calls.specs.declared.state.Scored.{Scored}
 use Rattle.ossl_calls.specs.declared.state.State.{State}
-use Rattle.ossl_calls.specs.Best.{Candidate, candidates_of, candidates, choice_of, scored, better, best_from, best_method, rows_of, score_of}
+use Rattle.ossl_calls.specs.Best.{Candidate, candidates_of, candidates_among, candidates, choice_of, merged_query, scored, better, best_from, best_method, rows_of}
 use Rattle.ossl_calls.specs.History.{Fixed}
 use Rattle.ossl_calls.specs.Rows.{is_wanted}
 use Rattle.ossl_calls.specs.Sound.{HasSoundInstances, is_paired, number_of_born}
@@ -40,33 +42,49 @@ module _ (q : Choice → Bool) where
     | inr stays ↦ rw stays h
   ]
 
-  scored-passes : (default query : Query) (c : Candidate) → q (choice_of c) ≡ true → passes q (scored default query c) ≡ true
-  scored-passes default query c h = of_score (score_of default query c.row)
+  scored-passes : (query : List Clause) (c : Candidate) → q (choice_of c) ≡ true → passes q (scored query c) ≡ true
+  scored-passes query c h = of_score (score_of c.row.definition query)
     where
       of_score : (o : Option ℕ) → passes q (option_map (λ n. record { score = n; choice = choice_of c }) o) ≡ true
       of_score None = refl
       of_score (Some n) = h
 
-  best_from-passes : (best : Option Scored) (default query : Query) (cs : List Candidate) → passes q best ≡ true → list_all (λ c. q (choice_of c)) cs ≡ true → passes q (best_from best default query cs) ≡ true
-  best_from-passes best default query [] h all = h
-  best_from-passes best default query (c ∷ cs) h all =
+  best_from-passes : (best : Option Scored) (query : List Clause) (cs : List Candidate) → passes q best ≡ true → list_all (λ c. q (choice_of c)) cs ≡ true → passes q (best_from best query cs) ≡ true
+  best_from-passes best query [] h all = h
+  best_from-passes best query (c ∷ cs) h all =
       let parts = and_parts (q (choice_of c)) (list_all (λ c. q (choice_of c)) cs) all in
-      best_from-passes (better best (scored default query c)) default query cs (better-passes best (scored default query c) h (scored-passes default query c parts.0)) parts.1
+      best_from-passes (better best (scored query c)) query cs (better-passes best (scored query c) h (scored-passes query c parts.0)) parts.1
+
+-- the row at an index is looked at, where the rows from it on are
+pub rows-next : (best : Option Scored) (a : Active) (op : Operation) (number : ℕ) (query : List Clause) (rows : List Offered) (i : ℕ) (row : Offered) → i < length rows → row ≡ get_or rows i row →
+    best_from best query (map (λ r. record { active = a; row = r }) (filter (is_wanted op number) (drop i rows)))
+    ≡ best_from (if is_wanted op number row then better best (scored query (record { active = a; row = row })) else best) query (map (λ r. record { active = a; row = r }) (filter (is_wanted op number) (drop (i + 1) rows)))
+rows-next best a op number query rows i row within here = rw split (elim (cases_Bool (is_wanted op number row)) [
+  | inl wanted ↦ rw wanted refl
+  | inr other ↦ rw other refl
+])
+  where
+    split : drop i rows ≡ row ∷ drop (i + 1) rows
+    split = rw (add-one, drop-cons rows i row) (ap (λ r. r ∷ drop (suc i) rows) (sym here))
 
 -- a candidate is one of an active instance
-candidates-active : (born : List Born) (op : Operation) (name : List ℕ) (p : Active → Bool) (order : List Active) → list_all p order ≡ true → list_all (λ (c : Candidate). p c.active) (flat_map (candidates_of born op name) order) ≡ true
-candidates-active born op name p [] all = refl
-candidates-active born op name p (a ∷ order) all =
+numbered-active : (born : List Born) (op : Operation) (number : ℕ) (p : Active → Bool) (order : List Active) → list_all p order ≡ true → list_all (λ (c : Candidate). p c.active) (flat_map (candidates_of born op number) order) ≡ true
+numbered-active born op number p [] all = refl
+numbered-active born op number p (a ∷ order) all =
     let parts = and_parts (p a) (list_all p order) all in
-    rw (list_all-append (λ (c : Candidate). p c.active) (candidates_of born op name a) (flat_map (candidates_of born op name) order), candidates-active born op name p order parts.1, of_rows (filter (is_wanted op name) (rows_of a.instance born)) parts.0) refl
+    rw (list_all-append (λ (c : Candidate). p c.active) (candidates_of born op number a) (flat_map (candidates_of born op number) order), numbered-active born op number p order parts.1, of_rows (filter (is_wanted op number) (rows_of a.instance born)) parts.0) refl
   where
     of_rows : (rows : List Offered) → p a ≡ true → list_all (λ (c : Candidate). p c.active) (map (λ row. record { active = a; row = row }) rows) ≡ true
     of_rows [] h = refl
     of_rows (row ∷ rows) h = rw (h, of_rows rows h) refl
 
+candidates-active : (born : List Born) (order : List Active) (op : Operation) (o : Option ℕ) (p : Active → Bool) → list_all p order ≡ true → list_all (λ (c : Candidate). p c.active) (candidates_among born order op o) ≡ true
+candidates-active born order op None p all = refl
+candidates-active born order op (Some number) p all = numbered-active born op number p order all
+
 -- the best method is one of an active instance
-pub best-active : (s : State) (l : ℕ) (op : Operation) (name : List ℕ) (query : Query) (chosen : Choice) → best_method s l op name query ≡ Some chosen → is_active chosen.instance (lib_at s l).order ≡ true
-best-active s l op name query chosen e = of_best (best_from None (lib_at s l).default query (candidates s l op name)) all e
+pub best-active : (s : State) (l : ℕ) (op : Operation) (name : List ℕ) (query : List Clause) (chosen : Choice) → best_method s l op name query ≡ Some chosen → is_active chosen.instance (lib_at s l).order ≡ true
+best-active s l op name query chosen e = of_best (best_from None (merged_query s l query) (candidates s l op name)) all e
   where
     order : List Active
     order = (lib_at s l).order
@@ -74,9 +92,9 @@ best-active s l op name query chosen e = of_best (best_from None (lib_at s l).de
     each : list_all (λ a. is_active a.instance (lib_at s l).order) (lib_at s l).order ≡ true
     each = all_among (λ a. is_active a.instance (lib_at s l).order) (lib_at s l).order (λ a among. among (λ a'. nat_eq a'.instance a.instance) (eq-eqb a.instance a.instance refl))
 
-    all : passes (λ ch. is_active ch.instance (lib_at s l).order) (best_from None (lib_at s l).default query (candidates s l op name)) ≡ true
-    all = best_from-passes (λ ch. is_active ch.instance (lib_at s l).order) None (lib_at s l).default query (candidates s l op name) refl
-        (candidates-active s.born op name (λ a. is_active a.instance (lib_at s l).order) (lib_at s l).order each)
+    all : passes (λ ch. is_active ch.instance (lib_at s l).order) (best_from None (merged_query s l query) (candidates s l op name)) ≡ true
+    all = best_from-passes (λ ch. is_active ch.instance (lib_at s l).order) None (merged_query s l query) (candidates s l op name) refl
+        (candidates-active s.born (lib_at s l).order op (number_of (lib_at s l).groups name) (λ a. is_active a.instance (lib_at s l).order) each)
 
     of_best : (o : Option Scored) → passes (λ ch. is_active ch.instance (lib_at s l).order) o ≡ true → option_map (λ (b : Scored). b.choice) o ≡ Some chosen → is_active chosen.instance (lib_at s l).order ≡ true
     of_best None h e = cc
@@ -95,7 +113,7 @@ active-lib born l n order paired active =
     rw (eq-eqb b.number n (eqb-true b.number w.0.instance inner.0 ∙ same), outer.1) refl) born pair
 
 -- the method of the best row holds what is up
-pub method_up : (fixed : Fixed) (m : ℕ) (s : State) (l : ℕ) (op : Operation) (name : List ℕ) (query : Query) (chosen : Choice) → HasSoundInstances fixed m s → best_method s l op name query ≡ Some chosen →
+pub method_up : (fixed : Fixed) (m : ℕ) (s : State) (l : ℕ) (op : Operation) (name : List ℕ) (query : List Clause) (chosen : Choice) → HasSoundInstances fixed m s → best_method s l op name query ≡ Some chosen →
     (b : Born) → IsAmong s.born b → is_in b.number (chosen.instance ∷ []) ≡ true → is_up s b ≡ true
 method_up fixed m s l op name query chosen h e b among held =
     let same : chosen.instance ≡ b.number = eqb-true chosen.instance b.number (rw or-false at held) in

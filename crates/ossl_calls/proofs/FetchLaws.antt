@@ -1,39 +1,38 @@
 -- What a fetch may answer, and what it leaves.
-use Rattle.std.proofs.Common.{◌≡◌, ℕ, ◌+◌, ◌<◌, ◌≤◌, Bool, true, false, ◌||◌, ◌&&◌, not, nat_eq, cond, ◌⊎◌, List, [], ◌∷◌, ◌++◌, length, get_or, refl, sym, ◌∙◌, ap, subst, arith, inl, inr, suc, zero}
-use Rattle.std.proofs.Math.ListN.{set, length-set}
+use Rattle.std.proofs.Common.{◌≡◌, ℕ, ◌+◌, ◌<◌, ◌≤◌, Bool, true, false, ◌&&◌, not, ◌⊎◌, List, [], ◌∷◌, ◌++◌, length, refl, sym, ◌∙◌, ap, subst, arith, inl, inr, suc, zero}
+use Rattle.std.proofs.Math.ListN.{length-set}
 use Rattle.std.specs.List.{list_any}
-use Rattle.std.specs.Prelude.{None, Some, if◌then◌else◌, IsTrue, is_none}
+use Rattle.std.specs.Prelude.{None, Some, IsTrue, is_none}
 use Rattle.std.specs.Str.{bytes_eq}
 use Rattle.std.specs.declared.option.Option.{Option}
-use Rattle.std.proofs.lemmas.Bool.{cases_Bool, and_parts, true≢false, both_ways, false_from_ne_true}
-use Rattle.std.proofs.lemmas.Grind.{common_steps}
-use Rattle.std.proofs.lemmas.List.{length_push}
+use Rattle.std.proofs.lemmas.Bool.{cases_Bool, and_parts, true≢false, false_from_ne_true}
 use Rattle.std.proofs.lemmas.List.Folds.{list_any_at}
 use Rattle.std.proofs.lemmas.List.Quantifiers.{position-Some}
 use Rattle.std.proofs.lemmas.Slice.Eq.{bytes_eq-Decides}
 use Rattle.ossl_base.specs.declared.entry.Entry.{Entry}
 use Rattle.ossl_provider.specs.Sheet.{Facts}
-use Rattle.ossl_provider.specs.declared.code.Operation.{Operation}
+use Rattle.ossl_codes.specs.declared.code.Operation.{Operation}
 use Rattle.ossl_calls.specs.declared.call.Call.{Call}
-use Rattle.ossl_calls.specs.declared.call.Call.TheVariants.{Fetch, NewCtx}
-use Rattle.ossl_calls.specs.declared.call.Query.{Query}
+use Rattle.ossl_calls.specs.declared.call.Call.TheVariants.{SetDefault, Fetch, NewCtx}
+use Rattle.ossl_property.specs.declared.clause.Clause.{Clause}
 use Rattle.ossl_calls.specs.declared.call.Reply.{Reply}
-use Rattle.ossl_calls.specs.declared.call.Reply.TheVariants.{Made, StartRefused}
+use Rattle.ossl_calls.specs.declared.call.Reply.TheVariants.{Made, Done, StartRefused}
 use Rattle.ossl_calls.specs.declared.state.Born.{Born}
 use Rattle.ossl_calls.specs.declared.state.Choice.{Choice}
 use Rattle.ossl_calls.specs.declared.state.Live.{Live}
 use Rattle.ossl_calls.specs.declared.state.State.{State}
 use Rattle.ossl_calls.specs.Best.{best_method}
-use Rattle.ossl_calls.specs.Boxes.{facts_at, place_of, default_name}
+use Rattle.ossl_calls.specs.Boxes.{facts_at, default_name}
 use Rattle.ossl_calls.specs.Events.{Keeps, Bears, Refuses, context_made, needs_birth}
 use Rattle.ossl_calls.specs.History.{Fixed, IsAllowed, IsStep}
 use Rattle.ossl_calls.specs.Registry.{are_apart}
 use Rattle.ossl_calls.specs.Sound.{HasSoundInstances, giving_back}
-use Rattle.ossl_calls.specs.State.{lib_at, is_active_box, up_in, up_instances}
-use Rattle.ossl_calls.specs.Step.{after_activation, after_fallback, element_of, new_context, with_element, fallback_of, fetched_of, held_instance, new_instance, new_method, used_of, joined_of, with_active, with_born, with_fallback_used, with_instance, with_method}
+use Rattle.ossl_calls.specs.State.{lib_at, with_lib, is_active_box, up_in, up_instances}
+use Rattle.ossl_calls.specs.Step.{after_activation, after_fallback, element_of, new_context, with_element, fallback_of, fetched_of, defaulted_of, with_default, grouped_of, offer_of, held_instance, new_instance, new_method, used_of, joined_of, with_active, with_born, with_fallback_used, with_method}
 use Rattle.ossl_calls.specs.Tokens.{entries_of}
 use Rattle.ossl_calls.proofs.ActiveLaws.{held_is, nothing_up}
 use Rattle.ossl_calls.proofs.ChoiceLaws.{method_up, context_up}
+use Rattle.ossl_calls.proofs.HistoryLaws.{after_activation-live, with_method-next}
 use Rattle.ossl_calls.proofs.RoomLaws.{method-room, fallback-room}
 use Rattle.ossl_calls.proofs.SoundLaws.{fallback_found, fallback_placed, up_instances-order, up_instances-held, up_instances-element, up_instances-born, instances-fallback}
 
@@ -61,15 +60,23 @@ module _ (fixed : Fixed) (s : State) (l : ℕ) (sound : HasSoundInstances fixed 
       let f = with_fallback_used (after_activation fixed.facts s l k) l in let b = new_instance fixed.facts s l k in (f.born ≡ s.born ++ b ∷ []) × (up_instances f ≡ up_instances s ++ b ∷ [])
   fallback-bears k absent none =
       let b = new_instance fixed.facts s l k in
-      let a = with_active (with_born s b) l k s.next in
+      let lib = grouped_of (lib_at s l) (offer_of fixed.facts s l k).groups in
+      let g = with_lib s l lib in
+      let a = with_active (with_born g b) l k s.next in
       let is : after_activation fixed.facts s l k ≡ a = rw (absent, none) refl in
-      rw is (refl, up_instances-order a l (used_of (lib_at a l)) (omega (arith, here, length-set s.libs l (joined_of (lib_at s l) k s.next))) refl ∙ up_instances-born s l k b here refl refl sound.below)
+      let inside : l < length g.libs = omega (arith, here, length-set s.libs l lib) in
+      let alike : up_instances g ≡ up_instances s = up_instances-order s l lib here refl in
+      rw is (
+        refl,
+        up_instances-order a l (used_of (lib_at a l)) (omega (arith, inside, length-set g.libs l (joined_of (lib_at g l) k s.next))) refl
+            ∙ up_instances-born g l k b inside refl refl sound.below ∙ ap (λ bs. bs ++ b ∷ []) alike,
+      )
 
   -- a box that needs a start has no instance that is up
   pub start-alone : (k : ℕ) → is_active_box k (lib_at s l).order ≡ false → held_instance s l k ≡ None → up_in s l k ≡ []
   start-alone k absent none = nothing_up s l k sound.distinct (sound.paired l) absent none
 
-module _ (fixed : Fixed) (s : State) (past : List (Entry Call Reply)) (c l : ℕ) (op : Operation) (name : List ℕ) (query : Query) where
+module _ (fixed : Fixed) (s : State) (past : List (Entry Call Reply)) (c l : ℕ) (op : Operation) (name : List ℕ) (query : List Clause) where
   abbrev pub fetch_entry : Reply → Entry Call Reply
   fetch_entry reply = record { caller = c; call = Fetch l op name query; reply = reply }
 
@@ -137,7 +144,7 @@ apart_at (f ∷ facts) (suc j) (suc k) apart in_j in_k differ same =
     apart_at facts j k parts.1 (omega arith) (omega arith) (λ q. differ (ap (λ n. suc n) q)) same
 
 -- a refused start is one of the box `default` alone
-pub refused-refuses : (facts : List Facts) (s : State) (c l : ℕ) (op : Operation) (name : List ℕ) (query : Query) (k : ℕ) → are_apart facts ≡ true → fallback_of facts (lib_at s l) ≡ Some k →
+pub refused-refuses : (facts : List Facts) (s : State) (c l : ℕ) (op : Operation) (name : List ℕ) (query : List Clause) (k : ℕ) → are_apart facts ≡ true → fallback_of facts (lib_at s l) ≡ Some k →
     Refuses facts s (record { caller = c; call = Fetch l op name query; reply = StartRefused default_name }) k
 refused-refuses facts s c l op name query k apart found =
     let at_k = position-Some (λ f. bytes_eq f.name default_name) facts k (facts_at [] 0) (fallback_found facts (lib_at s l) k found).1 in
@@ -149,8 +156,24 @@ refused-refuses facts s c l op name query k apart found =
           apart_at facts j k apart below at_k.0 differ (sym (names-same default_name (facts_at facts j).name e) ∙ sym same));
     }
 
--- a fetch that does not fall back, and that is answered a row
-pub plain-keeps : (fixed : Fixed) (s : State) (c l : ℕ) (op : Operation) (name : List ℕ) (query : Query) (chosen : Choice) → HasSoundInstances fixed s.next s → fallback_of fixed.facts (lib_at s l) ≡ None →
+-- a default query that is set
+pub default-keeps : (facts : List Facts) (s : State) (c l : ℕ) (query : List Clause) → l < length s.libs →
+    Keeps facts s (record { caller = c; call = SetDefault l query; reply = Done }) (with_default s l query)
+default-keeps facts s c l query within = record {
+  leaves = refl;
+  no_refusal = λ n. refl;
+  born = refl;
+  up = up_instances-order s l (defaulted_of (lib_at s l) query) within refl;
+}
+
+-- a fetch that does not fall back
+pub plain-next : (fixed : Fixed) (s : State) (past : List (Entry Call Reply)) (c l : ℕ) (op : Operation) (name : List ℕ) (query : List Clause) → IsAllowed fixed (entries_of c past) (Fetch l op name query) →
+    IsTrue (lib_at s l).is_open → fallback_of fixed.facts (lib_at s l) ≡ None → (o : Option Choice) → o ≡ best_method s l op name query →
+    IsStep fixed s past (record { caller = c; call = Fetch l op name query; reply = fetched_of fixed.facts s.next o })
+plain-next fixed s past c l op name query allowed is_open none o e = fetched-next fixed s past c l op name query allowed is_open o (rw none (sym e))
+
+-- and that is answered a row
+pub plain-keeps : (fixed : Fixed) (s : State) (c l : ℕ) (op : Operation) (name : List ℕ) (query : List Clause) (chosen : Choice) → HasSoundInstances fixed s.next s → fallback_of fixed.facts (lib_at s l) ≡ None →
     best_method s l op name query ≡ Some chosen →
     Keeps fixed.facts s (record { caller = c; call = Fetch l op name query; reply = fetched_of fixed.facts s.next (Some chosen) }) (with_element s (new_method s.next c chosen))
 plain-keeps fixed s c l op name query chosen sound none e = record {
@@ -209,8 +232,12 @@ needs-none s l k none = elim (cases_Bool (is_active_box k (lib_at s l).order)) [
     of_held absent None found e = absurd (true≢false e)
     of_held absent (Some i) found e = (i, absent, found)
 
+-- the state that a fetch which falls back leaves, but for the number of the next entry
+pub falling-next : (fixed : Fixed) (s : State) (c l k : ℕ) (o : Option Choice) → (with_method (with_fallback_used (after_activation fixed.facts s l k) l) c o).next ≡ s.next
+falling-next fixed s c l k o = with_method-next (with_fallback_used (after_activation fixed.facts s l k) l) c o ∙ (after_activation-live fixed.facts s l k).1
+
 -- a fetch that falls back to a box
-module _ (fixed : Fixed) (s : State) (past : List (Entry Call Reply)) (c l : ℕ) (op : Operation) (name : List ℕ) (query : Query) (k : ℕ) (left : State) (chosen : Option Choice)
+module _ (fixed : Fixed) (s : State) (past : List (Entry Call Reply)) (c l : ℕ) (op : Operation) (name : List ℕ) (query : List Clause) (k : ℕ) (left : State) (chosen : Option Choice)
     (found : fallback_of fixed.facts (lib_at s l) ≡ Some k) (sound : HasSoundInstances fixed s.next s) (within : l < fixed.contexts)
     (left_is : left ≡ with_fallback_used (after_activation fixed.facts s l k) l) (chosen_is : chosen ≡ best_method left l op name query) where
   falls : left ≡ after_fallback fixed.facts s l

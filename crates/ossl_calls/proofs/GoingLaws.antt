@@ -1,7 +1,6 @@
 -- Which instances are up before and after something goes.
-use Rattle.std.proofs.Common.{◌≡◌, ℕ, ◌+◌, ◌<◌, ◌≤◌, Bool, true, false, not, ◌||◌, List, [], ◌∷◌, length, refl, sym, ◌∙◌, ap, arith, suc, zero}
+use Rattle.std.proofs.Common.{◌≡◌, ℕ, Bool, true, not, ◌||◌, List, [], ◌∷◌, refl, ap, arith, suc, zero}
 use Rattle.std.proofs.Math.ListN.{set}
-use Rattle.std.specs.List.{list_any, filter}
 use Rattle.std.proofs.lemmas.Grind.{common_steps}
 use Rattle.ossl_provider.specs.Members.{is_in}
 use Rattle.ossl_calls.specs.declared.state.Born.{Born}

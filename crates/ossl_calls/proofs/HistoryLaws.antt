@@ -1,6 +1,5 @@
 -- Histories with one more entry.
-use Rattle.std.proofs.Common.{◌≡◌, ℕ, ◌+◌, ◌<◌, Bool, true, false, cond, List, [], ◌∷◌, ◌++◌, length, refl, sym, ◌∙◌, ap, arith, append_assoc, inl, inr}
-use Rattle.std.specs.List.{count_by}
+use Rattle.std.proofs.Common.{◌≡◌, ℕ, ◌+◌, List, [], ◌∷◌, ◌++◌, length, refl, ◌∙◌, arith, append_assoc, inl, inr}
 use Rattle.std.specs.Prelude.{if◌then◌else◌, None, Some}
 use Rattle.std.specs.declared.option.Option.{Option}
 use Rattle.std.proofs.lemmas.Bool.{cases_Bool}
@@ -9,9 +8,9 @@ use Rattle.std.proofs.lemmas.List.{append-nil}
 use Rattle.ossl_base.specs.declared.entry.Entry.{Entry}
 use Rattle.ossl_provider.specs.Sheet.{Facts}
 use Rattle.ossl_calls.specs.declared.call.Call.{Call}
-use Rattle.ossl_calls.specs.declared.call.Call.TheVariants.{Fetch, NewCtx, Free, FreeCtx, CloseLib}
+use Rattle.ossl_calls.specs.declared.call.Call.TheVariants.{SetDefault, Fetch, NewCtx, Free, FreeCtx, CloseLib}
 use Rattle.ossl_calls.specs.declared.call.Reply.{Reply}
-use Rattle.ossl_calls.specs.declared.call.Reply.TheVariants.{Fetched, Made, Done, NoLib, StartRefused, Unsupported, NotAdmitted}
+use Rattle.ossl_calls.specs.declared.call.Reply.TheVariants.{Fetched, Made, Done, Unsupported}
 use Rattle.ossl_calls.specs.declared.state.Choice.{Choice}
 use Rattle.ossl_calls.specs.declared.state.Live.{Live}
 use Rattle.ossl_calls.specs.declared.state.State.{State}
@@ -75,7 +74,7 @@ after_fallback-live facts s l = to (fallback_of facts (lib_at s l))
     to None = (refl, refl)
     to (Some k) = after_activation-live facts s l k
 
-with_method-next : (s : State) (c : ℕ) (o : Option Choice) → (with_method s c o).next ≡ s.next
+pub with_method-next : (s : State) (c : ℕ) (o : Option Choice) → (with_method s c o).next ≡ s.next
 with_method-next s c None = refl
 with_method-next s c (Some chosen) = refl
 
@@ -89,6 +88,7 @@ left_by-next facts s c (Fetch l op name q) (Fetched n p i r code) =
     with_method-next (after_fallback facts s l) c (best_method (after_fallback facts s l) l op name q) ∙ (after_fallback-live facts s l).1
 left_by-next facts s c (Fetch l op name q) Unsupported = (after_fallback-live facts s l).1
 left_by-next facts s c (NewCtx h inner len) (Made n) = with_context-next s c inner (element_of s h)
+left_by-next facts s c (SetDefault l q) Done = refl
 left_by-next facts s c (Free h) Done = refl
 left_by-next facts s c (FreeCtx h) Done = refl
 left_by-next facts s c (CloseLib l) Done = refl

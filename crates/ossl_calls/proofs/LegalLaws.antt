@@ -1,33 +1,31 @@
 -- The state after a legal history is sound.
-use Rattle.std.proofs.Common.{◌≡◌, ℕ, ◌+◌, ◌<◌, ◌≤◌, ◌^◌, ◌-◌, Bool, true, false, not, ◌||◌, ◌&&◌, nat_eq, nat_lt, cond, List, [], ◌∷◌, ◌++◌, length, map, replicate, get_or, refl, sym, ◌∙◌, ap, subst, arith, append_assoc, suc, zero}
-use Rattle.std.specs.List.{list_all, filter}
-use Rattle.std.specs.Prelude.{None, Some, if◌then◌else◌}
+use Rattle.std.proofs.Common.{◌≡◌, ℕ, ◌+◌, true, List, [], ◌∷◌, ◌++◌, length, replicate, get_or, refl, sym, ap, subst, arith, append_assoc, suc, zero}
 use Rattle.std.proofs.lemmas.Bool.{ltb-true, true≢false}
-use Rattle.std.proofs.lemmas.Grind.{common_steps}
 use Rattle.std.proofs.lemmas.List.{append-nil}
-use Rattle.std.proofs.lemmas.List.Folds.{list_any-append}
 use Rattle.ossl_base.specs.declared.entry.Entry.{Entry}
-use Rattle.ossl_provider.specs.Sheet.{Facts}
 use Rattle.ossl_calls.specs.declared.call.Call.{Call}
-use Rattle.ossl_calls.specs.declared.call.Call.TheVariants.{Fetch, NewCtx, Free, FreeCtx, CloseLib}
+use Rattle.ossl_calls.specs.declared.call.Call.TheVariants.{SetDefault, Fetch, NewCtx, Free, FreeCtx, CloseLib}
 use Rattle.ossl_calls.specs.declared.call.Reply.{Reply}
 use Rattle.ossl_calls.specs.declared.call.Reply.TheVariants.{Fetched, Made, Done, NoLib, StartRefused, Unsupported, NotAdmitted}
-use Rattle.ossl_calls.specs.declared.state.Born.{Born}
 use Rattle.ossl_calls.specs.declared.state.State.{State}
 use Rattle.ossl_calls.specs.Best.{best_method}
-use Rattle.ossl_calls.specs.History.{Fixed, IsStep, IsRun, IsLegal, IsNext, after_entry, state_from, state_after}
-use Rattle.ossl_calls.specs.Sound.{IsSound, HasSoundInstances, HasSoundElements, is_live, is_paired}
-use Rattle.ossl_calls.specs.State.{fresh_lib, no_lib, lib_at, opening_state}
+use Rattle.ossl_calls.specs.History.{Fixed, IsStep, IsRun, IsLegal, after_entry, state_from, state_after}
+use Rattle.ossl_calls.specs.Sound.{IsSound, HasSoundInstances}
+use Rattle.ossl_calls.specs.State.{fresh_lib, no_lib, opening_state}
 use Rattle.ossl_calls.specs.Step.{after_fallback, element_of, left_by, new_context, new_method, with_next, without_element, Answers}
-use Rattle.ossl_calls.specs.Tokens.{Token, activation_token, method_token, context_token, owns, entries_of, names_context}
+use Rattle.ossl_calls.specs.Tokens.{owns, entries_of, names_context}
 use Rattle.ossl_calls.proofs.ChoiceLaws.{method_up, context_up}
-use Rattle.ossl_calls.proofs.HistoryLaws.{left_by-next, IsLegal-last}
-use Rattle.ossl_calls.proofs.SoundLaws.{instances-more, instances-alike, instances-element, instances-without_element, instances-closed, instances-fallback}
+use Rattle.ossl_calls.proofs.HistoryLaws.{left_by-next}
+use Rattle.ossl_calls.proofs.SoundLaws.{instances-more, instances-alike, instances-element, instances-without_element, instances-closed, instances-default, instances-fallback}
 use Rattle.ossl_calls.proofs.TokenLaws.{fetched_some, admitted_some, elements_after, owns-push, owned_after}
 
 -- the instances and library contexts that a step leaves
 pub instances_after : (fixed : Fixed) (s : State) (c : ℕ) (call : Call) (reply : Reply) → names_context fixed.contexts call ≡ true → Answers fixed.facts s c call reply →
     HasSoundInstances fixed s.next s → HasSoundInstances fixed (s.next + 1) (left_by fixed.facts s c call reply)
+instances_after fixed s c (SetDefault l q) NoLib there a h = instances-more fixed s.next s h
+instances_after fixed s c (SetDefault l q) Done there a h =
+    let lib = ltb-true l fixed.contexts there in
+    instances-default fixed (s.next + 1) s l q (omega (arith, lib, h.contexts)) (instances-more fixed s.next s h)
 instances_after fixed s c (Fetch l op name q) NoLib there a h = instances-more fixed s.next s h
 instances_after fixed s c (Fetch l op name q) (StartRefused p) there a h = instances-more fixed s.next s h
 instances_after fixed s c (Fetch l op name q) Unsupported there a h = instances-fallback fixed s l (ltb-true l fixed.contexts there) h

@@ -1,15 +1,14 @@
 -- How many entries it takes to give everything back.
-use Rattle.std.proofs.Common.{◌≡◌, ℕ, ◌+◌, ◌<◌, ◌≤◌, Bool, true, false, ◌||◌, ◌&&◌, not, nat_eq, cond, List, [], ◌∷◌, ◌++◌, length, replicate, get_or, refl, sym, ◌∙◌, ap, arith, zero-add, inl, inr, suc, zero}
-use Rattle.std.proofs.Math.ListN.{set, length-set}
-use Rattle.std.specs.List.{list_any, count_by}
+use Rattle.std.proofs.Common.{◌≡◌, ℕ, ◌+◌, ◌≤◌, ◌&&◌, nat_eq, cond, List, [], ◌∷◌, length, replicate, get_or, refl, sym, ◌∙◌, ap, arith, zero-add, inl, inr, suc, zero}
+use Rattle.std.proofs.Math.ListN.{set}
 use Rattle.std.specs.Prelude.{None, Some, if◌then◌else◌, IsTrue}
 use Rattle.std.specs.declared.option.Option.{Option}
 use Rattle.std.proofs.lemmas.Bool.{cases_Bool, and_parts}
-use Rattle.std.proofs.lemmas.Grind.{common_steps}
 use Rattle.std.proofs.lemmas.List.{length_push}
 use Rattle.std.proofs.lemmas.List.Sums.{sum_by-append}
 use Rattle.ossl_base.specs.declared.entry.Entry.{Entry}
 use Rattle.ossl_provider.specs.Sheet.{Facts}
+use Rattle.ossl_property.specs.declared.clause.Clause.{Clause}
 use Rattle.ossl_calls.specs.declared.call.Call.{Call}
 use Rattle.ossl_calls.specs.declared.call.Reply.{Reply}
 use Rattle.ossl_calls.specs.declared.state.Choice.{Choice}
@@ -20,8 +19,8 @@ use Rattle.ossl_calls.specs.declared.state.State.{State}
 use Rattle.ossl_calls.specs.History.{Fixed}
 use Rattle.ossl_calls.specs.Sound.{IsSound, is_own, open_count, giving_back}
 use Rattle.ossl_calls.specs.State.{fresh_lib, no_lib, lib_at, is_active_box}
-use Rattle.ossl_calls.specs.Step.{new_method, closed_of, used_of, joined_of, held_instance, is_named, with_instance, with_active, with_born, new_instance, after_activation, with_fallback_used, with_method, without_element, with_closed}
-use Rattle.ossl_calls.specs.Tokens.{Token, method_token, context_token, owns, entries_of}
+use Rattle.ossl_calls.specs.Step.{new_method, used_of, defaulted_of, with_default, joined_of, held_instance, is_named, with_instance, with_groups, grouped_of, offer_of, after_activation, with_fallback_used, with_method, without_element}
+use Rattle.ossl_calls.specs.Tokens.{method_token, context_token, owns, entries_of}
 use Rattle.ossl_calls.proofs.ListLaws.{any_more, length-filter_less}
 
 open_count-cons : (x : LibCtx) (libs : List LibCtx) → open_count (x ∷ libs) ≡ (if x.is_open then 1 else 0) + open_count libs
@@ -42,13 +41,19 @@ activation-room facts s l k = elim (cases_Bool (is_active_box k (lib_at s l).ord
   where
     instance : (o : Option ℕ) → giving_back (with_instance facts s l k o) ≡ giving_back s
     instance (Some n) = ap (λ n. length s.live + n) (open_count-set s.libs l (joined_of (lib_at s l) k n) refl)
-    instance None = ap (λ n. length s.live + n) (open_count-set s.libs l (joined_of (lib_at s l) k s.next) refl)
+    instance None =
+        let g = with_groups s l (offer_of facts s l k).groups in
+        ap (λ n. length s.live + n) (open_count-set g.libs l (joined_of (lib_at g l) k s.next) refl ∙ open_count-set s.libs l (grouped_of (lib_at s l) (offer_of facts s l k).groups) refl)
 
 -- a fallback makes no element and opens no library context
 pub fallback-room : (facts : List Facts) (s : State) (l k : ℕ) → giving_back (with_fallback_used (after_activation facts s l k) l) ≡ giving_back s
 fallback-room facts s l k =
     let a = after_activation facts s l k in
     ap (λ n. length a.live + n) (open_count-set a.libs l (used_of (lib_at a l)) refl) ∙ activation-room facts s l k
+
+-- nor does a default query that is set
+pub default-room : (s : State) (l : ℕ) (query : List Clause) → giving_back (with_default s l query) ≡ giving_back s
+default-room s l query = ap (λ n. length s.live + n) (open_count-set s.libs l (defaulted_of (lib_at s l) query) refl)
 
 -- a method is one element more
 pub method-room : (s : State) (c : ℕ) (o : Option Choice) → giving_back (with_method s c o) ≤ giving_back s + 1

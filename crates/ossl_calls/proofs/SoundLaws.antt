@@ -1,12 +1,10 @@
 -- The instances and library contexts of a state that a step leaves.
-use Rattle.std.proofs.Common.{◌≡◌, ℕ, ◌+◌, ◌<◌, ◌≤◌, Bool, true, false, not, ◌||◌, ◌&&◌, nat_eq, nat_lt, cond, List, [], ◌∷◌, ◌++◌, length, map, get_or, refl, sym, ◌∙◌, ap, arith, suc, zero, inl, inr}
-use Rattle.std.proofs.Math.ListN.{set, length-set}
-use Rattle.std.specs.List.{list_any, list_all, filter, find, fold}
-use Rattle.std.specs.Prelude.{None, Some, if◌then◌else◌}
+use Rattle.std.proofs.Common.{◌≡◌, ℕ, ◌+◌, ◌<◌, Bool, true, false, not, ◌||◌, ◌&&◌, nat_eq, nat_lt, List, [], ◌∷◌, ◌++◌, length, map, refl, sym, ◌∙◌, ap, arith, inl, inr}
+use Rattle.std.proofs.Math.ListN.{length-set}
+use Rattle.std.specs.List.{list_all, filter}
+use Rattle.std.specs.Prelude.{None, Some}
 use Rattle.std.specs.declared.option.Option.{Option}
-use Rattle.std.specs.Option.{option_map}
-use Rattle.std.proofs.lemmas.Bool.{cases_Bool, cases_eq, and_parts, eqb-true, eq-eqb, ne_eqb, lt-ltb, ltb-true, true≢false, both_ways}
-use Rattle.std.proofs.Math.Bool.{or-false}
+use Rattle.std.proofs.lemmas.Bool.{cases_Bool, cases_eq, eq-eqb, ne_eqb, lt-ltb, ltb-true}
 use Rattle.std.proofs.lemmas.Grind.{common_steps}
 use Rattle.std.proofs.lemmas.List.{length_push, map-append, append-nil}
 use Rattle.std.proofs.lemmas.List.Elements.{filter-append}
@@ -16,19 +14,20 @@ use Rattle.std.proofs.lemmas.List.Folds.{list_any-append, list_all-append}
 use Rattle.ossl_provider.specs.Members.{is_in, is_distinct}
 use Rattle.ossl_provider.specs.Sheet.{Facts}
 use Rattle.ossl_provider.proofs.MembersLaws.{is_distinct-push}
+use Rattle.ossl_names.specs.Groups.{Groups}
+use Rattle.ossl_property.specs.declared.clause.Clause.{Clause}
 use Rattle.ossl_calls.specs.declared.state.Active.{Active}
 use Rattle.ossl_calls.specs.declared.state.Born.{Born}
 use Rattle.ossl_calls.specs.declared.state.LibCtx.{LibCtx}
 use Rattle.ossl_calls.specs.declared.state.Live.{Live}
 use Rattle.ossl_calls.specs.declared.state.State.{State}
-use Rattle.ossl_calls.specs.declared.state.Fallback.TheVariants.{Used}
 use Rattle.ossl_calls.specs.Boxes.{facts_at, place_of, default_name}
 use Rattle.ossl_calls.specs.History.{Fixed}
 use Rattle.ossl_calls.specs.Sound.{HasSoundInstances, is_paired, number_of_born, lib_of_born}
-use Rattle.ossl_calls.specs.State.{lib_at, with_lib, is_active, is_active_box, is_held, is_up, is_of_box, up_in, up_instances}
-use Rattle.ossl_calls.specs.Step.{closed_of, used_of, joined_of, held_instance, with_active, with_born, new_instance, with_instance, after_activation, with_fallback_used, fallback_of, after_fallback_to, after_fallback, is_armed, with_element, without_element, with_closed, is_named}
+use Rattle.ossl_calls.specs.State.{lib_at, with_lib, is_active_box, is_held, is_up, is_of_box, up_in, up_instances}
+use Rattle.ossl_calls.specs.Step.{closed_of, used_of, joined_of, held_instance, with_active, with_born, with_groups, grouped_of, defaulted_of, with_default, offer_of, new_instance, with_instance, after_activation, with_fallback_used, fallback_of, after_fallback_to, after_fallback, is_armed, with_element, without_element, with_closed, is_named}
 use Rattle.ossl_calls.proofs.ActiveLaws.{order_after, up_after, up_after_closing, up_active-held, up_active-other, up_active-itself, held_is, nothing_up}
-use Rattle.ossl_calls.proofs.ListLaws.{IsAmong, any_more, any_fewer, all_more, filter_same, filter_same-where, filter_same-among, filter-filter, filter-swap, distinct_fewer, is_in_below}
+use Rattle.ossl_calls.proofs.ListLaws.{IsAmong, any_fewer, all_more, filter_same, filter_same-where, filter_same-among, filter-filter, filter-swap, distinct_fewer, is_in_below}
 
 -- a change of a library context that keeps the order keeps what is up
 pub up_instances-order : (s : State) (l : ℕ) (lib : LibCtx) → l < length s.libs → lib.order ≡ (lib_at s l).order → up_instances (with_lib s l lib) ≡ up_instances s
@@ -143,9 +142,19 @@ module _ (fixed : Fixed) where
   instances-closed n s l within h = instances-fewer n s (with_closed s l) h refl (up_after_closing s l (closed_of (lib_at s l)) within refl) (length-set s.libs l (closed_of (lib_at s l)))
       (order_after s l (closed_of (lib_at s l)) within (λ m order. list_all (is_paired s.born m) order ≡ true) refl h.paired)
 
+  -- a change of a library context that keeps the order
+  pub instances-order : (n : ℕ) (s : State) (l : ℕ) (lib : LibCtx) → l < length s.libs → lib.order ≡ (lib_at s l).order → HasSoundInstances fixed n s → HasSoundInstances fixed n (with_lib s l lib)
+  instances-order n s l lib within same h = instances-alike n s (with_lib s l lib) h refl (up_instances-order s l lib within same) (length-set s.libs l lib)
+      (order_after s l lib within (λ m order. list_all (is_paired s.born m) order ≡ true) (rw same (h.paired l)) h.paired)
+
+  instances-grouped : (n : ℕ) (s : State) (l : ℕ) (groups : Groups) → l < length s.libs → HasSoundInstances fixed n s → HasSoundInstances fixed n (with_groups s l groups)
+  instances-grouped n s l groups within h = instances-order n s l (grouped_of (lib_at s l) groups) within refl h
+
+  pub instances-default : (n : ℕ) (s : State) (l : ℕ) (query : List Clause) → l < length s.libs → HasSoundInstances fixed n s → HasSoundInstances fixed n (with_default s l query)
+  instances-default n s l query within h = instances-order n s l (defaulted_of (lib_at s l) query) within refl h
+
   pub instances-used : (n : ℕ) (s : State) (l : ℕ) → l < length s.libs → HasSoundInstances fixed n s → HasSoundInstances fixed n (with_fallback_used s l)
-  instances-used n s l within h = instances-alike n s (with_fallback_used s l) h refl (up_instances-order s l (used_of (lib_at s l)) within refl) (length-set s.libs l (used_of (lib_at s l)))
-      (order_after s l (used_of (lib_at s l)) within (λ m order. list_all (is_paired s.born m) order ≡ true) (h.paired l) h.paired)
+  instances-used n s l within h = instances-order n s l (used_of (lib_at s l)) within refl h
 
   pub instances-held : (n : ℕ) (s : State) (l k i : ℕ) → l < length s.libs → held_instance s l k ≡ Some i → HasSoundInstances fixed n s → HasSoundInstances fixed n (with_active s l k i)
   instances-held n s l k i within found h =
@@ -192,7 +201,10 @@ module _ (fixed : Fixed) where
       instance : is_active_box k (lib_at s l).order ≡ false → (o : Option ℕ) → held_instance s l k ≡ o → HasSoundInstances fixed (s.next + 1) (with_instance fixed.facts s l k o)
       instance absent (Some i) found = instances-more s.next (with_active s l k i) (instances-held s.next s l k i within found h)
       instance absent None none =
-          instances-born s l k (new_instance fixed.facts s l k) within lib_within placed refl refl refl (nothing_up s l k h.distinct (h.paired l) absent none) h
+          let groups = (offer_of fixed.facts s l k).groups in
+          let g = with_groups s l groups in
+          let alone : up_in g l k ≡ [] = ap (λ bs. filter (λ b. nat_eq b.lib l) (filter (is_of_box k) bs)) (up_instances-order s l (grouped_of (lib_at s l) groups) within refl) ∙ nothing_up s l k h.distinct (h.paired l) absent none in
+          instances-born g l k (new_instance fixed.facts s l k) (omega (arith, within, length-set s.libs l (grouped_of (lib_at s l) groups))) lib_within placed refl refl refl alone (instances-grouped s.next s l groups within h)
 
   -- the state in which a fetch looks
   pub instances-fallback : (s : State) (l : ℕ) → l < fixed.contexts → HasSoundInstances fixed s.next s → HasSoundInstances fixed (s.next + 1) (after_fallback fixed.facts s l)

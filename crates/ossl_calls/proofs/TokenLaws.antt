@@ -1,6 +1,6 @@
 -- The live elements after a step, and the tokens that are owned.
-use Rattle.std.proofs.Common.{◌≡◌, ℕ, ◌+◌, ◌<◌, Bool, true, false, ◌&&◌, ◌||◌, not, nat_eq, nat_lt, cond, List, [], ◌∷◌, ◌++◌, length, map, refl, sym, ◌∙◌, ap, arith, inl, inr}
-use Rattle.std.specs.List.{list_any, list_all, filter}
+use Rattle.std.proofs.Common.{◌≡◌, ℕ, ◌+◌, Bool, true, false, ◌&&◌, ◌||◌, not, nat_eq, nat_lt, List, [], ◌∷◌, ◌++◌, map, refl, sym, ◌∙◌, arith, inl, inr}
+use Rattle.std.specs.List.{list_any, filter}
 use Rattle.std.specs.Prelude.{if◌then◌else◌, None, Some}
 use Rattle.std.specs.declared.option.Option.{Option}
 use Rattle.std.proofs.lemmas.Bool.{cases_Bool, and_parts, eqb-true, eq-eqb, ne_eqb, lt-ltb, ltb-true, true≢false, both_ways}
@@ -9,12 +9,11 @@ use Rattle.std.proofs.lemmas.List.{length_push, map-append, append-nil}
 use Rattle.std.proofs.lemmas.List.Elements.{filter-append}
 use Rattle.std.proofs.lemmas.List.Folds.{list_any-append, list_all-append}
 use Rattle.ossl_base.specs.declared.entry.Entry.{Entry}
-use Rattle.ossl_provider.specs.Members.{is_in, is_distinct}
 use Rattle.ossl_provider.specs.Sheet.{Facts}
-use Rattle.ossl_provider.specs.declared.code.Code.{Code}
+use Rattle.ossl_codes.specs.declared.code.Code.{Code}
 use Rattle.ossl_provider.proofs.MembersLaws.{is_distinct-push}
 use Rattle.ossl_calls.specs.declared.call.Call.{Call}
-use Rattle.ossl_calls.specs.declared.call.Call.TheVariants.{Fetch, NewCtx, Free, FreeCtx, CloseLib}
+use Rattle.ossl_calls.specs.declared.call.Call.TheVariants.{SetDefault, Fetch, NewCtx, Free, FreeCtx, CloseLib}
 use Rattle.ossl_calls.specs.declared.call.Reply.{Reply}
 use Rattle.ossl_calls.specs.declared.call.Reply.TheVariants.{Fetched, Made, Done, NoLib, StartRefused, Unsupported, NotAdmitted}
 use Rattle.ossl_calls.specs.declared.state.Choice.{Choice}
@@ -24,7 +23,7 @@ use Rattle.ossl_calls.specs.declared.state.Live.{Live}
 use Rattle.ossl_calls.specs.declared.state.State.{State}
 use Rattle.ossl_calls.specs.Best.{best_method}
 use Rattle.ossl_calls.specs.Sound.{HasSoundElements, is_kind, is_own, is_live, number_of_live}
-use Rattle.ossl_calls.specs.Step.{is_named, is_owned_by, owned_by, after_fallback, fetched_of, admits, element_of, new_method, new_context, left_by, Answers}
+use Rattle.ossl_calls.specs.Step.{is_named, is_owned_by, after_fallback, fetched_of, admits, element_of, new_method, new_context, left_by, Answers}
 use Rattle.ossl_calls.specs.Tokens.{Token, activation_token, method_token, context_token, gains_by, gives_up_by, owns_after_entry, owns_after, owns, entries_of, owns_named}
 use Rattle.ossl_calls.proofs.HistoryLaws.{after_fallback-live}
 use Rattle.ossl_calls.proofs.ListLaws.{any_witness, any_both, all_more, all_fewer, length-filter, distinct_fewer, is_in_below}
@@ -64,6 +63,8 @@ elements-filter n live q h = record {
 
 -- the live elements that a step leaves
 pub elements_after : (facts : List Facts) (s : State) (c : ℕ) (call : Call) (reply : Reply) → Answers facts s c call reply → HasSoundElements s.next s.live → HasSoundElements (s.next + 1) (left_by facts s c call reply).live
+elements_after facts s c (SetDefault l q) NoLib a h = elements-more s.next s.live h
+elements_after facts s c (SetDefault l q) Done a h = elements-more s.next s.live h
 elements_after facts s c (Fetch l op name q) NoLib a h = elements-more s.next s.live h
 elements_after facts s c (Fetch l op name q) (StartRefused p) a h = elements-more s.next s.live h
 elements_after facts s c (Fetch l op name q) Unsupported a h = rw (after_fallback-live facts s l).0 (elements-more s.next s.live h)
@@ -185,6 +186,8 @@ pub owned_after : (facts : List Facts) (s : State) (mine : List (Entry Call Repl
     (o ≡ true → is_live s.live c t token ≡ true) →
     (if nat_eq c' c then (if gains_by call reply t token then true else (if gives_up_by call reply t token then false else o)) else o) ≡ true →
     is_live (left_by facts s c' call reply).live c t token ≡ true
+owned_after facts s mine c' c t token (SetDefault l q) NoLib o a h named own was after = was (stays_owned (nat_eq c' c) o after)
+owned_after facts s mine c' c t token (SetDefault l q) Done o a h named own was after = was (stays_owned (nat_eq c' c) o after)
 owned_after facts s mine c' c t token (Fetch l op name q) NoLib o a h named own was after = was (stays_owned (nat_eq c' c) o after)
 owned_after facts s mine c' c t token (Fetch l op name q) (StartRefused p) o a h named own was after = was (stays_owned (nat_eq c' c) o after)
 owned_after facts s mine c' c t token (Fetch l op name q) Unsupported o a h named own was after = rw (after_fallback-live facts s l).0 (was (stays_owned (nat_eq c' c) o after))

@@ -3,8 +3,7 @@
 use Rattle.std.specs.Prelude.{ℕ, Bool, not, ◌&&◌, is_none, ◌≡◌, ◌<◌, length, IsTrue, IsFalse, List, [], ◌∷◌, ◌++◌, if◌then◌else◌, None, Some}
 use Rattle.std.specs.declared.option.Option.{Option}
 use Rattle.ossl_base.specs.declared.entry.Entry.{Entry}
-use Rattle.ossl_provider.specs.Members.{is_in}
-use Rattle.ossl_provider.specs.Sheet.{Facts, Sheet}
+use Rattle.ossl_provider.specs.Sheet.{Facts}
 use Rattle.ossl_calls.specs.declared.call.Call.{Call}
 use Rattle.ossl_calls.specs.declared.call.Reply.{Reply}
 use Rattle.ossl_calls.specs.declared.state.Born.{Born}
@@ -13,7 +12,7 @@ use Rattle.ossl_calls.specs.declared.state.Live.{Live}
 use Rattle.ossl_calls.specs.declared.state.State.{State}
 use Rattle.ossl_calls.specs.Boxes.{facts_at}
 use Rattle.ossl_calls.specs.Going.{IsThere, without_going}
-use Rattle.ossl_calls.specs.History.{Fixed, says_refused}
+use Rattle.ossl_calls.specs.History.{says_refused}
 use Rattle.ossl_calls.specs.State.{is_active_box, lib_at, up_instances}
 use Rattle.ossl_calls.specs.Step.{left_by, held_instance, new_context}
 

@@ -1,5 +1,5 @@
 -- Whole histories: the state that entries leave, and which lists of entries are histories.
-use Rattle.std.specs.Prelude.{ℕ, ◌+◌, ⊤, Bool, true, false, IsTrue, if◌then◌else◌, List, [], ◌∷◌, ◌++◌, count_by}
+use Rattle.std.specs.Prelude.{ℕ, ⊤, Bool, false, IsTrue, List, [], ◌∷◌, ◌++◌, count_by}
 use Rattle.std.specs.Str.{bytes_eq}
 use Rattle.ossl_base.specs.declared.entry.Entry.{Entry}
 use Rattle.ossl_provider.specs.Sheet.{Facts}

@@ -1,7 +1,7 @@
 -- What the type of the plain registry keeps between calls.
-use Rattle.std.specs.Prelude.{ℕ, ◌≡◌, ◌≤◌, IsTrue, List, map}
+use Rattle.std.specs.Prelude.{◌≡◌, ◌≤◌, IsTrue, List}
 use Rattle.ossl_base.specs.declared.entry.Entry.{Entry}
-use Rattle.ossl_provider.specs.Sheet.{Facts, Sheet}
+use Rattle.ossl_provider.specs.Sheet.{Sheet}
 use Rattle.ossl_calls.specs.declared.call.Call.{Call}
 use Rattle.ossl_calls.specs.declared.call.Reply.{Reply}
 use Rattle.ossl_calls.specs.declared.state.State.{State}

@@ -1,5 +1,4 @@
 -- What the contracts of the registry cite.
-pub mod Query
 pub mod Boxes
 pub mod Rows
 pub mod State

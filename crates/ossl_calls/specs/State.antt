@@ -2,21 +2,19 @@
 --
 -- The struct `State` of src/state.rt is the definition's state itself: numbers and lists, and nothing that only a body
 -- would need. A registry that keeps another representation cites this one. A box is named by its place in the catalogue.
-use Rattle.std.specs.Prelude.{ℕ, ◌+◌, ◌-◌, Bool, true, false, ◌&&◌, ◌||◌, nat_eq, List, [], ◌∷◌, ◌++◌, length, map, filter, count_by, replicate, slice_index_or, slice_set}
+use Rattle.std.specs.Prelude.{ℕ, ◌-◌, Bool, true, false, ◌||◌, nat_eq, List, [], length, map, filter, count_by, replicate, slice_index_or, slice_set}
 use Rattle.std.specs.List.{list_any}
 use Rattle.ossl_provider.specs.Members.{is_in}
 use Rattle.ossl_calls.specs.declared.state.Active.{Active}
 use Rattle.ossl_calls.specs.declared.state.Born.{Born}
-use Rattle.ossl_calls.specs.declared.state.Fallback.{Fallback}
 use Rattle.ossl_calls.specs.declared.state.Fallback.TheVariants.{Armed, Off}
 use Rattle.ossl_calls.specs.declared.state.LibCtx.{LibCtx}
 use Rattle.ossl_calls.specs.declared.state.Live.{Live}
 use Rattle.ossl_calls.specs.declared.state.State.{State}
-use Rattle.ossl_calls.specs.Query.{empty_query}
 
--- a library context at the start: open, its fallback armed, its default query empty
+-- a library context at the start: open, its fallback armed, its default query empty, no name known
 abbrev pub fresh_lib : LibCtx
-fresh_lib = record { is_open = true; fallback = Armed; default = empty_query; order = []; given = [] }
+fresh_lib = record { is_open = true; fallback = Armed; default = []; groups = []; order = []; given = [] }
 
 -- the state at the start, of so many library contexts
 abbrev pub opening_state : ℕ → State
@@ -24,7 +22,7 @@ opening_state contexts = record { next = 1; libs = replicate contexts fresh_lib;
 
 -- a library context that is not there is as a closed one
 abbrev pub no_lib : LibCtx
-no_lib = record { is_open = false; fallback = Off; default = empty_query; order = []; given = [] }
+no_lib = record { is_open = false; fallback = Off; default = []; groups = []; order = []; given = [] }
 
 -- the library context of a number
 abbrev pub lib_at : State → ℕ → LibCtx

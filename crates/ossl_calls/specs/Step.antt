@@ -4,22 +4,23 @@ use Rattle.std.specs.Option.{option_map}
 use Rattle.std.specs.declared.option.Option.{Option}
 use Rattle.ossl_provider.specs.Sheet.{Facts}
 use Rattle.ossl_calls.specs.declared.call.Call.{Call}
-use Rattle.ossl_calls.specs.declared.call.Call.TheVariants.{Fetch, NewCtx, Free, FreeCtx, CloseLib}
+use Rattle.ossl_calls.specs.declared.call.Call.TheVariants.{SetDefault, Fetch, NewCtx, Free, FreeCtx, CloseLib}
 use Rattle.ossl_calls.specs.declared.call.Reply.{Reply}
 use Rattle.ossl_calls.specs.declared.call.Reply.TheVariants.{Fetched, Made, Done, NoLib, StartRefused, Unsupported, NotAdmitted}
-use Rattle.ossl_calls.specs.declared.state.Active.{Active}
 use Rattle.ossl_calls.specs.declared.state.Born.{Born}
 use Rattle.ossl_calls.specs.declared.state.Choice.{Choice}
 use Rattle.ossl_calls.specs.declared.state.Fallback.{Fallback}
 use Rattle.ossl_calls.specs.declared.state.Fallback.TheVariants.{Armed, Off, Used}
-use Rattle.ossl_calls.specs.declared.state.Kind.{Kind}
 use Rattle.ossl_calls.specs.declared.state.Kind.TheVariants.{Method, Context}
 use Rattle.ossl_calls.specs.declared.state.LibCtx.{LibCtx}
 use Rattle.ossl_calls.specs.declared.state.Live.{Live}
 use Rattle.ossl_calls.specs.declared.state.State.{State}
 use Rattle.ossl_calls.specs.Best.{best_method}
 use Rattle.ossl_calls.specs.Boxes.{facts_at, place_of, default_name}
-use Rattle.ossl_calls.specs.Rows.{Offer, offered}
+use Rattle.ossl_names.specs.Groups.{Groups}
+use Rattle.ossl_property.specs.declared.clause.Clause.{Clause}
+use Rattle.ossl_calls.specs.declared.offer.Offer.{Offer}
+use Rattle.ossl_calls.specs.Rows.{offered}
 use Rattle.ossl_calls.specs.State.{lib_at, with_lib, is_active_box, is_held, up_in}
 
 -- 1. A provider becomes active in a library context.
@@ -35,16 +36,27 @@ joined_of lib k n = record lib { order = lib.order ++ record { place = k; instan
 abbrev pub with_active : State → ℕ → ℕ → ℕ → State
 with_active s l k n = with_lib s l (joined_of (lib_at s l) k n)
 
--- the instance that a start makes: its number is that of the entry
+-- what the box at a place offers where it starts in a library context
+abbrev pub offer_of : List Facts → State → ℕ → ℕ → Offer
+offer_of facts s l k = offered (lib_at s l).groups (facts_at facts k).rows
+
+-- the instance that a start makes: its number is that of the entry, and its rows are fixed at its start
 abbrev pub new_instance : List Facts → State → ℕ → ℕ → Born
-new_instance facts s l k = let offer = offered (facts_at facts k).rows in record { number = s.next; lib = l; place = k; rows = offer.rows; skipped = offer.skipped }
+new_instance facts s l k = let offer = offer_of facts s l k in record { number = s.next; lib = l; place = k; rows = offer.rows; skipped = offer.skipped }
+
+-- the names of its rows join the groups of the library context
+abbrev pub grouped_of : LibCtx → Groups → LibCtx
+grouped_of lib groups = record lib { groups = groups }
+
+abbrev pub with_groups : State → ℕ → Groups → State
+with_groups s l groups = with_lib s l (grouped_of (lib_at s l) groups)
 
 abbrev pub with_born : State → Born → State
 with_born s b = record s { born = s.born ++ b ∷ [] }
 
 abbrev pub with_instance : List Facts → State → ℕ → ℕ → Option ℕ → State
 with_instance facts s l k (Some n) = with_active s l k n
-with_instance facts s l k None = with_active (with_born s (new_instance facts s l k)) l k s.next
+with_instance facts s l k None = with_active (with_born (with_groups s l (offer_of facts s l k).groups) (new_instance facts s l k)) l k s.next
 
 -- nothing where the box is active there already; else its held instance goes on, or a new one is born
 abbrev pub after_activation : List Facts → State → ℕ → ℕ → State
@@ -136,12 +148,20 @@ admits facts len (Some m) = (facts_at facts m.place).admits m.code len
 -- 4. A library context closes.
 
 abbrev pub closed_of : LibCtx → LibCtx
-closed_of lib = record lib { is_open = false; given = []; order = [] }
+closed_of lib = record lib { is_open = false; given = []; order = []; groups = [] }
 
 abbrev pub with_closed : State → ℕ → State
 with_closed s l = with_lib s l (closed_of (lib_at s l))
 
--- 5. The table of steps.
+-- 5. The default query of a library context.
+
+abbrev pub defaulted_of : LibCtx → List Clause → LibCtx
+defaulted_of lib query = record lib { default = query }
+
+abbrev pub with_default : State → ℕ → List Clause → State
+with_default s l query = with_lib s l (defaulted_of (lib_at s l) query)
+
+-- 6. The table of steps.
 
 -- what a fetch answers of its choice
 abbrev pub fetched_of : List Facts → ℕ → Option Choice → Reply
@@ -150,6 +170,8 @@ fetched_of facts n (Some chosen) = Fetched n (facts_at facts chosen.place).name 
 
 -- where a reply to a call may come
 abbrev pub Answers : List Facts → State → ℕ → Call → Reply → Type 0
+Answers facts s c (SetDefault l query) NoLib = IsFalse (lib_at s l).is_open
+Answers facts s c (SetDefault l query) Done = IsTrue (lib_at s l).is_open
 Answers facts s c (Fetch l op name query) NoLib = IsFalse (lib_at s l).is_open
 Answers facts s c (CloseLib l) NoLib = IsFalse (lib_at s l).is_open
 Answers facts s c (Fetch l op name query) (StartRefused p) =
@@ -168,6 +190,8 @@ Answers facts s c call reply = ⊥
 
 -- what a call and its reply leave, but for the number of the next entry
 abbrev pub left_by : List Facts → State → ℕ → Call → Reply → State
+left_by facts s c (SetDefault l query) NoLib = s
+left_by facts s c (SetDefault l query) Done = with_default s l query
 left_by facts s c (Fetch l op name query) NoLib = s
 left_by facts s c (CloseLib l) NoLib = s
 left_by facts s c (Fetch l op name query) (StartRefused p) = s

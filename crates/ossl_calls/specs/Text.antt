@@ -1,18 +1,21 @@
 -- The text of an entry, as a printed run shows it.
-use Rattle.std.specs.Prelude.{ℕ, List, [], ◌++◌, codes, None, Some}
+use Rattle.std.specs.Prelude.{ℕ, List, ◌++◌, codes, None, Some}
 use Rattle.std.specs.Fmt.{decimal}
 use Rattle.std.specs.declared.option.Option.{Option}
 use Rattle.ossl_base.specs.declared.entry.Entry.{Entry}
-use Rattle.ossl_provider.specs.declared.code.Operation.{Operation}
-use Rattle.ossl_provider.specs.declared.code.Operation.TheVariants.{Digest}
+use Rattle.ossl_codes.specs.declared.code.Operation.{Operation}
+use Rattle.ossl_codes.specs.declared.code.Operation.TheVariants.{Digest, Cipher, Mac, Kdf}
 use Rattle.ossl_calls.specs.declared.call.Call.{Call}
-use Rattle.ossl_calls.specs.declared.call.Call.TheVariants.{Fetch, NewCtx, Free, FreeCtx, CloseLib}
+use Rattle.ossl_calls.specs.declared.call.Call.TheVariants.{SetDefault, Fetch, NewCtx, Free, FreeCtx, CloseLib}
 use Rattle.ossl_calls.specs.declared.call.Reply.{Reply}
 use Rattle.ossl_calls.specs.declared.call.Reply.TheVariants.{Fetched, Made, Done, NoLib, StartRefused, Unsupported, NotAdmitted}
-use Rattle.ossl_calls.specs.Query.{query_text}
+use Rattle.ossl_property.specs.Printed.{printed_query}
 
 abbrev pub operation_text : Operation → List ℕ
 operation_text Digest = codes "digest"
+operation_text Cipher = codes "cipher"
+operation_text Mac = codes "mac"
+operation_text Kdf = codes "kdf"
 
 -- a token of an inner method, or a dash where there is none
 abbrev pub inner_text : Option ℕ → List ℕ
@@ -20,8 +23,9 @@ inner_text None = codes "-"
 inner_text (Some t) = decimal t
 
 abbrev pub call_text : Call → List ℕ
+call_text (SetDefault l query) = codes "default " ++ decimal l ++ codes " [" ++ printed_query query ++ codes "]"
 call_text (Fetch l op name query) =
-    codes "fetch " ++ decimal l ++ codes " " ++ operation_text op ++ codes " " ++ name ++ codes " [" ++ query_text query ++ codes "]"
+    codes "fetch " ++ decimal l ++ codes " " ++ operation_text op ++ codes " " ++ name ++ codes " [" ++ printed_query query ++ codes "]"
 call_text (NewCtx h inner len) = codes "newctx " ++ decimal h ++ codes " " ++ inner_text inner ++ codes " " ++ decimal len
 call_text (Free h) = codes "free " ++ decimal h
 call_text (FreeCtx h) = codes "freectx " ++ decimal h

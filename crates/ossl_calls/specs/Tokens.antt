@@ -1,10 +1,10 @@
 -- Which tokens a caller owns, and which calls it may make. Both follow from the caller's own entries and the number of
 -- library contexts alone.
-use Rattle.std.specs.Prelude.{ℕ, Bool, true, false, ◌&&◌, nat_eq, nat_lt, IsTrue, if◌then◌else◌, List, [], ◌∷◌, filter, None, Some}
+use Rattle.std.specs.Prelude.{ℕ, Bool, true, false, ◌&&◌, nat_eq, nat_lt, if◌then◌else◌, List, [], ◌∷◌, filter, None, Some}
 use Rattle.std.specs.declared.option.Option.{Option}
 use Rattle.ossl_base.specs.declared.entry.Entry.{Entry}
 use Rattle.ossl_calls.specs.declared.call.Call.{Call}
-use Rattle.ossl_calls.specs.declared.call.Call.TheVariants.{Fetch, NewCtx, Free, FreeCtx, CloseLib}
+use Rattle.ossl_calls.specs.declared.call.Call.TheVariants.{SetDefault, Fetch, NewCtx, Free, FreeCtx, CloseLib}
 use Rattle.ossl_calls.specs.declared.call.Reply.{Reply}
 use Rattle.ossl_calls.specs.declared.call.Reply.TheVariants.{Fetched, Made}
 
@@ -54,6 +54,7 @@ owns_inner mine (Some t) = owns mine t method_token
 
 -- each token that a call names is owned, and stands for what the call takes
 abbrev pub owns_named : List (Entry Call Reply) → Call → Bool
+owns_named mine (SetDefault l query) = true
 owns_named mine (Fetch l op name query) = true
 owns_named mine (NewCtx h inner len) = owns mine h method_token && owns_inner mine inner
 owns_named mine (Free h) = owns mine h method_token
@@ -62,6 +63,7 @@ owns_named mine (CloseLib l) = true
 
 -- the library context that a call names is one of so many
 abbrev pub names_context : ℕ → Call → Bool
+names_context contexts (SetDefault l query) = nat_lt l contexts
 names_context contexts (Fetch l op name query) = nat_lt l contexts
 names_context contexts (NewCtx h inner len) = true
 names_context contexts (Free h) = true

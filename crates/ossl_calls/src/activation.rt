@@ -4,14 +4,15 @@ ghost use Rattle.ossl_calls.specs.Boxes.{default_name};
 ghost use Rattle.ossl_calls.specs.Events.{needs_birth};
 ghost use Rattle.ossl_calls.specs.Rows.{offered};
 ghost use Rattle.ossl_calls.specs.State.{is_active_box, no_lib};
-ghost use Rattle.ossl_calls.specs.Step.{after_activation, fallback_of, held_instance, is_armed, joined_of, used_of, with_fallback_used};
+ghost use Rattle.ossl_calls.specs.Step.{after_activation, fallback_of, grouped_of, held_instance, is_armed, joined_of, used_of, with_fallback_used};
 
 use crate::copies::copy_state;
 use crate::items::Items;
-use crate::lookup::{is_held_instance, order_of};
-use crate::offer::offer;
+use crate::lookup::{copy_groups, is_held_instance, order_of};
+use crate::offer::offer_all;
 use crate::opening::fresh_lib;
 use crate::state::{Active, Born, Fallback, LibCtx, State};
+use ossl_names::NameMap;
 use ossl_provider::provider::Provider;
 use std::alloc::{AllocError, Global};
 
@@ -83,25 +84,39 @@ pub fn find_fallback<P: Provider>(boxes: &[P], libs: &[LibCtx], lib: u64) -> Opt
     }
 }
 
-/// The instance that a start of a provider makes.
+/// The instance that a start of a provider makes where these are the groups of names, and the groups once the names of its
+/// rows have joined.
 fn new_instance<P: Provider>(
     alloc: Global,
     provider: &P,
+    groups: NameMap,
     number: u64,
     lib: u64,
     place: usize,
-) -> Result<Born, AllocError>
-    ensures { IfOk result (λ b. b ≡ (let offer = offered (P.facts provider.now).rows in
+) -> Result<(Born, NameMap), AllocError>
+    ensures instance { IfOk result (λ made. made.0 ≡ (let offer = offered groups (P.facts provider.now).rows in
         record { number = number; lib = lib; place = place; rows = offer.rows; skipped = offer.skipped })) }
+    ensures groups { IfOk result (λ made. made.1 ≡ (offered groups (P.facts provider.now).rows).groups) }
 {
-    let offer = offer(alloc, provider)?;
-    Ok(Born {
+    let offer = offer_all(alloc, provider, groups)?;
+    let born = Born {
         number,
         lib,
         place,
         rows: offer.rows,
         skipped: offer.skipped,
-    })
+    };
+    Ok((born, offer.groups))
+}
+
+/// Puts other groups of names into a library context.
+fn set_groups(alloc: Global, libs: &mut Items<LibCtx>, lib: usize, groups: NameMap)
+    requires { lib < length libs.old }
+    ensures { libs.new ≡ slice_set libs.old lib (grouped_of (slice_index_or libs.old lib no_lib) groups) }
+{
+    let mut was = libs.replace(lib, fresh_lib(alloc));
+    was.groups = groups;
+    libs.set(lib, was);
 }
 
 /// Puts a provider and its instance at the end of a library context's order.
@@ -150,7 +165,9 @@ fn activate<P: Provider>(
     match find_held(state, lib, place) {
         Some(held) => join(alloc, &mut state.libs, lib as usize, place, held),
         None => {
-            let b = new_instance(alloc, &boxes[place], number, lib, place)?;
+            let groups = copy_groups(alloc, state.libs.as_slice(), lib)?;
+            let (b, groups) = new_instance(alloc, &boxes[place], groups, number, lib, place)?;
+            set_groups(alloc, &mut state.libs, lib as usize, groups);
             state.born.push(b)?;
             join(alloc, &mut state.libs, lib as usize, place, number)
         }

@@ -1,38 +1,30 @@
-ghost use Rattle.std.specs.Prelude.{◌≡◌, Some, filter, map, find, nat_eq};
+ghost use Rattle.std.specs.Prelude.{◌≡◌, None, Some, filter, map, find, nat_eq, IfOk};
 ghost use Rattle.std.specs.Option.{option_copied, option_map};
-ghost use Rattle.ossl_calls.specs.Best.{rows_of, score_of, better, best_from, best_method};
-ghost use Rattle.ossl_calls.specs.Rows.{is_operation, is_same_name, is_wanted};
+ghost use Rattle.ossl_calls.specs.Best.{rows_of, better, best_from, best_method, candidates_among};
+ghost use Rattle.ossl_calls.specs.Rows.{is_operation, is_wanted};
 
-use crate::call::Query;
 use crate::state::{Active, Born, Choice, Offered, Scored, State};
-use ossl_provider::code::Operation;
+use ossl_codes::Operation;
+use ossl_property::{Query, Steps, merge, score};
+use std::alloc::{AllocError, Global};
+use std::sync::ledger::Ledger;
 
 fn is_same_operation(a: Operation, b: Operation) -> bool
     ensures { result ≡ is_operation a b }
 {
     match (a, b) {
-        (Operation::Digest, Operation::Digest) => true,
+        (Operation::Digest, Operation::Digest)
+        | (Operation::Cipher, Operation::Cipher)
+        | (Operation::Mac, Operation::Mac)
+        | (Operation::Kdf, Operation::Kdf) => true,
+        _ => false,
     }
 }
 
-/// Names are compared without the case of ASCII letters.
-fn are_same_name(a: &[u8], b: &[u8]) -> bool
-    ensures { result ≡ is_same_name a.now b.now }
+fn is_wanted_row(op: Operation, number: u64, row: &Offered) -> bool
+    ensures { result ≡ is_wanted op number row.now }
 {
-    a.eq_ignore_ascii_case(b)
-}
-
-fn is_wanted_row(op: Operation, name: &[u8], row: &Offered) -> bool
-    ensures { result ≡ is_wanted op name.now row.now }
-{
-    is_same_operation(row.op, op) && are_same_name(row.name.as_slice(), name)
-}
-
-/// The score of a row. Until queries are read each row meets each query, with no optional clause.
-fn score(_default: &Query, _query: &Query, _row: &Offered) -> Option<u64>
-    ensures { result ≡ score_of _default.now _query.now _row.now }
-{
-    Some(0)
+    is_same_operation(row.op, op) && row.number == number
 }
 
 /// The better of the best row so far and a later one, which wins only with a greater score.
@@ -70,45 +62,73 @@ fn offered_rows(born: &[Born], instance: u64) -> &[Offered]
 }
 
 /// The best of the row so far and the wanted rows of one active provider.
-fn best_of_rows(
+fn best_of_rows<L: Ledger>(
     best: Option<Scored>,
     a: Active,
     rows: &[Offered],
     op: Operation,
-    name: &[u8],
-    default: &Query,
+    number: u64,
     query: &Query,
+    steps: &mut Steps<L>,
 ) -> Option<Scored>
-    ensures { result ≡ best_from best default.now query.now
-        (map (λ row. record { active = a; row = row }) (filter (is_wanted op name.now) rows.now)) }
+    ensures { result ≡ best_from best query.now
+        (map (λ row. record { active = a; row = row }) (filter (is_wanted op number) rows.now)) }
 {
     let mut best = best;
     for row in rows {
-        if is_wanted_row(op, name, row) {
+        if is_wanted_row(op, number, row) {
             let choice = Choice {
                 place: a.place,
                 instance: a.instance,
                 row: row.index,
                 code: row.code,
             };
-            best = better_of(best, score(default, query, row), choice);
+            best = better_of(best, score(&row.definition, query, steps), choice);
         }
     }
     best
 }
 
-/// The best method of a name in a library context.
-pub fn best(state: &State, lib: u64, op: Operation, name: &[u8], query: &Query) -> Option<Choice>
-    ensures { result ≡ best_method state.now lib op name.now query.now }
+/// The best of the wanted rows of active providers.
+fn best_among<L: Ledger>(
+    born: &[Born],
+    order: &[Active],
+    op: Operation,
+    number: u64,
+    query: &Query,
+    steps: &mut Steps<L>,
+) -> Option<Choice>
+    ensures { result ≡ option_map (λ b. b.choice) (best_from None query.now (candidates_among born.now order.now op (Some number))) }
 {
-    let Some(lib) = state.libs.as_slice().get(lib as usize) else {
-        return None;
-    };
-    let born = state.born.as_slice();
     let mut best = None;
-    for a in lib.order.as_slice() {
+    for a in order {
         let rows = offered_rows(born, a.instance);
-        best = best_of_rows(best, *a, rows, op, name, &lib.default, query);
+        best = best_of_rows(best, *a, rows, op, number, query, steps);
     }
     best.map(|best| best.choice)
+}
+
+/// The best method of a name in a library context: of the rows of its active providers by the score under the query and
+/// the default query, then by the order in which the providers became active, then by row.
+pub fn best<L: Ledger>(
+    alloc: Global,
+    state: &State,
+    lib: u64,
+    op: Operation,
+    name: &[u8],
+    query: &Query,
+    steps: &mut Steps<L>,
+) -> Result<Option<Choice>, AllocError>
+    ensures { IfOk result (λ chosen. chosen ≡ best_method state.now lib op name.now query.now) }
+{
+    let Some(lib) = state.libs.as_slice().get(lib as usize) else {
+        return Ok(None);
+    };
+    let Some(number) = lib.groups.number(name) else {
+        return Ok(None);
+    };
+    let query = merge(alloc, query, &lib.default)?;
+    let born = state.born.as_slice();
+    let order = lib.order.as_slice();
+    Ok(best_among(born, order, op, number, &query, steps))
 }

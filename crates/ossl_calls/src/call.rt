@@ -1,33 +1,19 @@
 ghost use Rattle.std.specs.Prelude.{◌≡◌, IfOk};
-ghost use Rattle.ossl_calls.specs.Query.{empty_query};
 
 use ossl_base::text::Text;
-use ossl_provider::code::{Code, Operation};
+use ossl_codes::{Code, Operation};
+use ossl_property::Query;
 use std::alloc::{AllocError, Global};
-
-/// What a fetch asks of the properties of a row (property(7)). There is only the empty query yet, which each row meets.
-#[derive(Drop)]
-pub struct Query;
-
-impl Query {
-    pub fn empty() -> Query
-        ensures { result ≡ empty_query }
-    {
-        Query
-    }
-
-    /// An equal query.
-    pub fn copy(&self, _alloc: Global) -> Result<Query, AllocError>
-        ensures { IfOk result (λ query. query ≡ self.now) }
-    {
-        Ok(Query)
-    }
-}
 
 /// A call of the registry. `lib` is the number of a library context (OSSL_LIB_CTX(3)), from 0; a token is the number
 /// of the entry that handed it out.
 #[derive(Drop)]
 pub enum Call {
+    /// Sets the default query of a library context (EVP_set_default_properties(3)).
+    SetDefault {
+        lib: u64,
+        query: Query,
+    },
     /// Looks for the best method of a name (EVP_MD_fetch(3)).
     Fetch {
         lib: u64,
@@ -61,6 +47,10 @@ impl Call {
         ensures { IfOk result (λ call. call ≡ self.now) }
     {
         Ok(match self {
+            Call::SetDefault { lib, query } => Call::SetDefault {
+                lib: *lib,
+                query: query.copy(alloc)?,
+            },
             Call::Fetch {
                 lib,
                 op,

@@ -12,8 +12,9 @@ fn copy_rows(alloc: Global, rows: &[Offered]) -> Result<Items<Offered>, AllocErr
         copy.push(Offered {
             index: row.index,
             op: row.op,
-            name: row.name.copy(alloc)?,
+            number: row.number,
             code: row.code,
+            definition: row.definition.copy(alloc)?,
         })?;
     }
     Ok(copy)
@@ -28,6 +29,7 @@ fn copy_libs(alloc: Global, libs: &[LibCtx]) -> Result<Items<LibCtx>, AllocError
             is_open: lib.is_open,
             fallback: lib.fallback,
             default: lib.default.copy(alloc)?,
+            groups: lib.groups.copy()?,
             order: Items::from_slice(alloc, lib.order.as_slice())?,
             given: Items::from_slice(alloc, lib.given.as_slice())?,
         })?;

@@ -8,7 +8,7 @@ use crate::call::Reply;
 use crate::items::Items;
 use crate::state::{Choice, Kind, Live, State};
 use ossl_base::text::Text;
-use ossl_provider::code::Code;
+use ossl_codes::Code;
 use ossl_provider::provider::Provider;
 use std::alloc::{AllocError, Global};
 

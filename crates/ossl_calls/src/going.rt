@@ -12,6 +12,7 @@ use crate::items::Items;
 use crate::lookup::{is_active_instance, is_held_instance, is_up_instance, order_of};
 use crate::opening::fresh_lib;
 use crate::state::{Born, Going, LibCtx, Live, State};
+use ossl_names::NameMap;
 use ossl_provider::provider::Provider;
 use std::alloc::Global;
 
@@ -74,6 +75,7 @@ fn close(alloc: Global, libs: &mut Items<LibCtx>, lib: usize)
             is_open: false,
             fallback: was.fallback,
             default: was.default,
+            groups: NameMap::new(alloc),
             order: Items::new(alloc),
             given: Items::new(alloc),
         },

@@ -8,6 +8,7 @@ mod best;
 mod boxes;
 pub mod call;
 mod copies;
+mod defaults;
 mod element;
 mod going;
 pub mod items;
@@ -21,6 +22,6 @@ pub mod state;
 #[cfg(test)]
 mod tests;
 
-pub use call::{Call, Entry, Query, Reply};
+pub use call::{Call, Entry, Reply};
 pub use plain::{OpenRefused, PlainRegistry, Up};
 pub use put::{put_call, put_entry, put_reply};

@@ -1,7 +1,9 @@
-ghost use Rattle.std.specs.Prelude.{◌≡◌, slice_index_or};
+ghost use Rattle.std.specs.Prelude.{◌≡◌, slice_index_or, IfOk};
 ghost use Rattle.ossl_calls.specs.State.{no_lib, is_active, is_held, is_up};
 
 use crate::state::{Active, Born, LibCtx, Live, State};
+use ossl_names::NameMap;
+use std::alloc::{AllocError, Global};
 
 /// The active providers of a library context.
 pub fn order_of(libs: &[LibCtx], lib: u64) -> &[Active]
@@ -20,6 +22,16 @@ pub fn is_open_lib(libs: &[LibCtx], lib: u64) -> bool
     match libs.get(lib as usize) {
         Some(lib) => lib.is_open,
         None => false,
+    }
+}
+
+/// A copy of the groups of names of a library context.
+pub fn copy_groups(alloc: Global, libs: &[LibCtx], lib: u64) -> Result<NameMap, AllocError>
+    ensures { IfOk result (λ groups. groups ≡ (slice_index_or libs.now lib no_lib).groups) }
+{
+    match libs.get(lib as usize) {
+        Some(lib) => lib.groups.copy(),
+        None => Ok(NameMap::new(alloc)),
     }
 }
 

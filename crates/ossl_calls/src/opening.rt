@@ -1,9 +1,10 @@
 ghost use Rattle.std.specs.Prelude.{◌≡◌, ◌<◌, ◌^◌, ℕ, map, replicate, slice_index, IfOk};
 ghost use Rattle.ossl_calls.specs.State.{fresh_lib, opening_state};
 
-use crate::call::Query;
 use crate::items::Items;
 use crate::state::{Fallback, LibCtx, State};
+use ossl_names::NameMap;
+use ossl_property::Query;
 use ossl_provider::provider::Provider;
 use std::alloc::{AllocError, Global};
 
@@ -26,7 +27,8 @@ pub fn fresh_lib(alloc: Global) -> LibCtx
     LibCtx {
         is_open: true,
         fallback: Fallback::Armed,
-        default: Query::empty(),
+        default: Query::empty(alloc),
+        groups: NameMap::new(alloc),
         order: Items::new(alloc),
         given: Items::new(alloc),
     }

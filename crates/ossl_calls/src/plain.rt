@@ -14,7 +14,8 @@ ghost use Rattle.ossl_calls.specs.declared.state.Born.{Born};
 use crate::activation::{fall_back, find_fallback, needs_start};
 use crate::best::best;
 use crate::boxes::start_at;
-use crate::call::{Call, Entry, Query, Reply};
+use crate::call::{Call, Entry, Reply};
+use crate::defaults::set_default;
 use crate::element::{context_of, give_method, make_method, name_at, reply_of};
 use crate::going::{stop_going, take_out};
 use crate::lookup::{is_open_lib, is_up_instance};
@@ -22,11 +23,13 @@ use crate::opening::{counts_of, open_state};
 use crate::room::reserve_room;
 use crate::state::{Choice, Going, Live, State};
 use ossl_base::text::Text;
+use ossl_codes::Operation;
+use ossl_property::{Query, Steps};
 use ossl_provider::boxed::Boxed;
-use ossl_provider::code::Operation;
 use ossl_provider::provider::Provider;
 use std::alloc::{AllocError, Global};
 use std::marker::Model;
+use std::sync::ledger::Ledger;
 
 /// A registry that keeps plain lists: the definition's plain program. Its type keeps that the history is legal, that
 /// each box has done what the history says, and that there is room for the entries by which all is given back.
@@ -110,8 +113,13 @@ impl<P: Provider> PlainRegistry<P> {
     }
 
     /// Makes a call for a caller, and appends its entry. A call that is refused memory leaves all as it was; the calls
-    /// that give something back are never refused it.
-    pub fn apply(&mut self, caller: u64, call: &Call) -> Result<Reply, AllocError>
+    /// that give something back are never refused it. A fetch counts a step for each clause that it tests.
+    pub fn apply<L: Ledger>(
+        &mut self,
+        caller: u64,
+        call: &Call,
+        steps: &mut Steps<L>,
+    ) -> Result<Reply, AllocError>
         requires allowed { IsAllowed (fixed_of P.facts self.old) (entries_of caller self.old.entries) call.now }
 
         // One entry is appended, and it is a step of the definition.
@@ -126,12 +134,13 @@ impl<P: Provider> PlainRegistry<P> {
         ensures no_memory { IsTrue (takes_no_memory (state_of P.facts self.old) call.now) → IsOk result }
     {
         let reply = match call {
+            Call::SetDefault { lib, query } => self.set_default(caller, *lib, query),
             Call::Fetch {
                 lib,
                 op,
                 name,
                 query,
-            } => self.fetch(caller, *lib, *op, name, query),
+            } => self.fetch(caller, *lib, *op, name, query, steps),
             Call::NewCtx {
                 handle,
                 inner,
@@ -212,10 +221,17 @@ impl<P: Provider> PlainRegistry<P> {
     }
 
     /// The best method of a name.
-    fn best(&self, lib: u64, op: Operation, name: &[u8], query: &Query) -> Option<Choice>
-        ensures { result ≡ best_method (state_of P.facts self.now) lib op name.now query.now }
+    fn best<L: Ledger>(
+        &self,
+        lib: u64,
+        op: Operation,
+        name: &[u8],
+        query: &Query,
+        steps: &mut Steps<L>,
+    ) -> Result<Option<Choice>, AllocError>
+        ensures { IfOk result (λ chosen. chosen ≡ best_method (state_of P.facts self.now) lib op name.now query.now) }
     {
-        best(&self.state, lib, op, name, query)
+        best(self.alloc, &self.state, lib, op, name, query, steps)
     }
 
     /// What a fetch answers of its choice.
@@ -268,14 +284,35 @@ impl<P: Provider> PlainRegistry<P> {
         Ok((left, starts))
     }
 
+    /// Sets the default query of a library context.
+    fn set_default(&mut self, caller: u64, lib: u64, query: &Query) -> Result<Reply, AllocError>
+        requires allowed { IsAllowed (fixed_of P.facts self.old) (entries_of caller self.old.entries) (Call.SetDefault lib query.now) }
+        ensures entry { IfOk result (λ reply. self.new.entries
+            ≡ self.old.entries ++ record { caller = caller; call = Call.SetDefault lib query.now; reply = reply } ∷ []) }
+        ensures fixed { fixed_of P.facts self.new ≡ fixed_of P.facts self.old }
+        ensures err { OnErr result (self.new ≡ self.old) }
+    {
+        let call = Call::SetDefault {
+            lib,
+            query: query.copy(self.alloc)?,
+        };
+        if self.is_open(lib) {
+            let default = query.copy(self.alloc)?;
+            self.put_default(caller, call, lib, default)
+        } else {
+            self.note(caller, call, Reply::NoLib)
+        }
+    }
+
     /// Looks for the best method of a name.
-    fn fetch(
+    fn fetch<L: Ledger>(
         &mut self,
         caller: u64,
         lib: u64,
         op: Operation,
         name: &Text,
         query: &Query,
+        steps: &mut Steps<L>,
     ) -> Result<Reply, AllocError>
         requires allowed { IsAllowed (fixed_of P.facts self.old) (entries_of caller self.old.entries) (Call.Fetch lib op name.now query.now) }
         ensures entry { IfOk result (λ reply. self.new.entries
@@ -294,9 +331,9 @@ impl<P: Provider> PlainRegistry<P> {
             return self.note(caller, call, Reply::NoLib);
         }
         if let Some(place) = self.fallback(lib) {
-            return self.fetch_falling(caller, call, lib, op, bytes, query, place);
+            return self.fetch_falling(caller, call, lib, op, bytes, query, place, steps);
         }
-        let chosen = self.best(lib, op, bytes, query);
+        let chosen = self.best(lib, op, bytes, query, steps)?;
         let reply = self.reply_of(chosen)?;
         match chosen {
             Some(chosen) => {
@@ -308,7 +345,7 @@ impl<P: Provider> PlainRegistry<P> {
     }
 
     /// Looks for the best method of a name in an open library context that falls back to a provider.
-    fn fetch_falling(
+    fn fetch_falling<L: Ledger>(
         &mut self,
         caller: u64,
         call: Call,
@@ -317,6 +354,7 @@ impl<P: Provider> PlainRegistry<P> {
         name: &[u8],
         query: &Query,
         place: usize,
+        steps: &mut Steps<L>,
     ) -> Result<Reply, AllocError>
         requires is { call ≡ Call.Fetch lib op name.now query.now }
         requires allowed { IsAllowed (fixed_of P.facts self.old) (entries_of caller self.old.entries) (Call.Fetch lib op name.now query.now) }
@@ -330,7 +368,7 @@ impl<P: Provider> PlainRegistry<P> {
         ensures err { OnErr result (self.new ≡ self.old) }
     {
         let (mut left, starts) = self.fall_back(lib, place)?;
-        let chosen = best(&left, lib, op, name, query);
+        let chosen = best(self.alloc, &left, lib, op, name, query, steps)?;
         let reply = self.reply_of(chosen)?;
         give_method(self.alloc, &mut left, caller, chosen)?;
         if starts {
@@ -435,6 +473,33 @@ impl<P: Provider> PlainRegistry<P> {
             reply,
         });
         Ok(answer)
+    }
+
+    /// Appends an entry that sets the default query of a library context.
+    fn put_default(
+        &mut self,
+        caller: u64,
+        call: Call,
+        lib: u64,
+        default: Query,
+    ) -> Result<Reply, AllocError>
+        requires lib { lib < self.old.contexts }
+        requires step { IsNext (fixed_of P.facts self.old) self.old.entries (record { caller = caller; call = call; reply = Reply.Done }) }
+        requires is { call ≡ Call.SetDefault lib default }
+        ensures entry { IfOk result (λ answer.
+            self.new.entries ≡ self.old.entries ++ record { caller = caller; call = call; reply = answer } ∷ []) }
+        ensures fixed { fixed_of P.facts self.new ≡ fixed_of P.facts self.old }
+        ensures err { OnErr result (self.new ≡ self.old) }
+    {
+        reserve_room(&mut self.history, &self.state, 1)?;
+        set_default(self.alloc, &mut self.state.libs, lib as usize, default);
+        self.state.next += 1;
+        self.history.push_reserved(Entry {
+            caller,
+            call,
+            reply: Reply::Done,
+        });
+        Ok(Reply::Done)
     }
 
     /// Appends an entry by which a live element is made, which holds only what is up.

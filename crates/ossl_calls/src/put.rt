@@ -1,10 +1,12 @@
 ghost use Rattle.std.specs.Prelude.{◌≡◌, ◌++◌, OnOk, OnErr, codes};
 ghost use Rattle.std.specs.Fmt.{decimal};
+ghost use Rattle.ossl_property.specs.Printed.{printed_query};
 ghost use Rattle.ossl_calls.specs.Text.{call_text, reply_text, entry_text, inner_text, operation_text};
 
 use crate::call::{Call, Entry, Reply};
 use ossl_base::digits::put_decimal;
-use ossl_provider::code::Operation;
+use ossl_codes::Operation;
+use ossl_property::Query;
 use std::alloc::{AllocError, Global};
 
 /// Appends the text of an entry as a printed run shows it: the call's text, `: ` and the reply's, with the numbers that
@@ -21,7 +23,7 @@ pub fn put_entry(alloc: Global, out: &mut Vec<u8>, entry: &Entry) -> Result<(), 
 }
 
 /// Appends a text and a number in decimal digits.
-fn put_numbered(alloc: Global, out: &mut Vec<u8>, text: &[u8], n: u64) -> Result<(), AllocError>
+pub fn put_numbered(alloc: Global, out: &mut Vec<u8>, text: &[u8], n: u64) -> Result<(), AllocError>
     ensures { OnOk result (out.new.items ≡ out.old.items ++ text.now ++ decimal n) }
 {
     out.extend_from_slice(text)?;
@@ -33,6 +35,9 @@ fn operation_name(op: Operation) -> &'static [u8]
 {
     match op {
         Operation::Digest => b"digest",
+        Operation::Cipher => b"cipher",
+        Operation::Mac => b"mac",
+        Operation::Kdf => b"kdf",
     }
 }
 
@@ -41,18 +46,22 @@ pub fn put_call(alloc: Global, out: &mut Vec<u8>, call: &Call) -> Result<(), All
     ensures { OnOk result (out.new.items ≡ out.old.items ++ call_text call.now) }
 {
     match call {
+        Call::SetDefault { lib, query } => {
+            put_numbered(alloc, out, b"default ", *lib)?;
+            put_query(alloc, out, query)
+        }
         Call::Fetch {
             lib,
             op,
             name,
-            query: _,
+            query,
         } => {
             put_numbered(alloc, out, b"fetch ", *lib)?;
             out.extend_from_slice(b" ")?;
             out.extend_from_slice(operation_name(*op))?;
             out.extend_from_slice(b" ")?;
             out.extend_from_slice(name.as_slice())?;
-            out.extend_from_slice(b" []")
+            put_query(alloc, out, query)
         }
         Call::NewCtx {
             handle,
@@ -67,6 +76,16 @@ pub fn put_call(alloc: Global, out: &mut Vec<u8>, call: &Call) -> Result<(), All
         Call::FreeCtx { handle } => put_numbered(alloc, out, b"freectx ", *handle),
         Call::CloseLib { lib } => put_numbered(alloc, out, b"closelib ", *lib),
     }
+}
+
+/// Appends a space and the printed form of a query in brackets.
+fn put_query(alloc: Global, out: &mut Vec<u8>, query: &Query) -> Result<(), AllocError>
+    ensures { OnOk result (out.new.items ≡ out.old.items ++ codes " [" ++ printed_query query.now ++ codes "]") }
+{
+    let text = query.print(alloc)?;
+    out.extend_from_slice(b" [")?;
+    out.extend_from_slice(text.as_slice())?;
+    out.extend_from_slice(b"]")
 }
 
 /// Appends a space and the token of an inner method, or a dash where there is none.

@@ -8,7 +8,13 @@ use std::alloc::AllocError;
 fn count_open(libs: &[LibCtx]) -> usize
     ensures { result ≡ open_count libs.now }
 {
-    libs.iter().filter(|lib| lib.is_open).count()
+    let mut count = 0;
+    for lib in libs {
+        if lib.is_open {
+            count += 1;
+        }
+    }
+    count
 }
 
 /// Makes room in a history for so many entries more, beside those by which all that a state holds is given back.

@@ -1,7 +1,7 @@
-use crate::call::Query;
 use crate::items::Items;
-use ossl_base::text::Text;
-use ossl_provider::code::{Code, Operation};
+use ossl_codes::{Code, Operation};
+use ossl_names::NameMap;
+use ossl_property::{Definition, Query};
 
 /// Whether a library context still falls back to the provider `default` (provider(7)).
 #[derive(Debug, Clone, Copy, PartialEq, Eq)]
@@ -29,24 +29,27 @@ pub struct Given {
     pub owner: u64,
 }
 
-/// A library context: its default query, the active providers in the order in which they became active, and the
-/// activations that loads gave.
+/// A library context: its default query, the groups of names that mean one algorithm, the active providers in the order
+/// in which they became active, and the activations that loads gave.
 #[derive(Drop)]
 pub struct LibCtx {
     pub is_open: bool,
     pub fallback: Fallback,
     pub default: Query,
+    pub groups: NameMap,
     pub order: Items<Active>,
     pub given: Items<Given>,
 }
 
-/// A row that an instance offers: its index in the provider, from 0, and what a fetch looks at.
+/// A row that an instance offers: its index in the provider, from 0, and what a fetch looks at: the operation, the number
+/// of the row's names, and its property definition.
 #[derive(Drop)]
 pub struct Offered {
     pub index: u64,
     pub op: Operation,
-    pub name: Text,
+    pub number: u64,
     pub code: Code,
+    pub definition: Definition,
 }
 
 /// An instance that was started: its number, its library context, the provider's place in the catalogue, the rows

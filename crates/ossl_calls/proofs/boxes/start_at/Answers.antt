@@ -1,6 +1,6 @@
 use Rattle.std.proofs.Common.{◌<◌, length, arith}
 use Rattle.std.proofs.lemmas.Result.{on_ok_weaker, on_err_weaker}
-use Rattle.ossl_provider.specs.Sheet.{Sheet, after_start, after_refusal}
+use Rattle.ossl_provider.specs.Sheet.{after_start, after_refusal}
 use Rattle.ossl_calls.proofs.BoxesLaws.{same_facts, changed_sheet}
 use Rattle.ossl_calls.proofs.boxes.start_at.Goals as goal
 

@@ -1,5 +1,5 @@
 use Rattle.std.proofs.Common.{◌<◌, length, arith}
-use Rattle.ossl_provider.specs.Sheet.{Sheet, after_stop}
+use Rattle.ossl_provider.specs.Sheet.{after_stop}
 use Rattle.ossl_calls.proofs.BoxesLaws.{same_facts, changed_sheet}
 use Rattle.ossl_calls.proofs.boxes.stop_at.Goals as goal
 

@@ -11,6 +11,6 @@ returns c =
     let libs = c.args.libs.now in
     let was = c.replace-was.result in
     let same : was ≡ get_or libs c.args.lib no_lib = c.replace-was.ensures.value ∙ get_or_default libs c.args.lib was no_lib c.requires in
-    (rw (c.replace-was.ensures.rest, c.new.ensures, c.new-2.ensures) at c.set.ensures)
+    (rw (c.replace-was.ensures.rest, c.new.ensures.empty, c.new-2.ensures, c.new-3.ensures) at c.set.ensures)
     ∙ set_twice libs c.args.lib c.fresh_lib.result (closed_of was)
     ∙ ap (λ lib. set libs c.args.lib (closed_of lib)) same

@@ -1,16 +1,11 @@
-use Rattle.std.proofs.Common.{◌≡◌, ℕ, ◌+◌, ◌<◌, ◌≤◌, Bool, List, [], ◌++◌, length, map, take, drop, get_or, true, false, refl, sym, ◌∙◌, ap, arith}
+use Rattle.std.proofs.Common.{◌≡◌, ◌<◌, ◌≤◌, length, map, get_or, false, sym, ◌∙◌, arith}
 use Rattle.std.proofs.lemmas.Bool.{ltb-true, false_from_ne_true, both_ways}
 use Rattle.std.proofs.lemmas.List.{length-map, take_all, append-nil}
 use Rattle.std.proofs.Math.ListN.{drop_of_length-le}
-use Rattle.ossl_provider.specs.Members.{is_distinct}
-use Rattle.ossl_provider.specs.Sheet.{Sheet}
-use Rattle.ossl_calls.specs.declared.state.Born.{Born}
-use Rattle.ossl_calls.specs.Boxes.{sheet_of}
-use Rattle.ossl_calls.specs.Going.{without_going, with_up}
-use Rattle.ossl_calls.specs.Sound.{number_of_born}
+use Rattle.ossl_calls.specs.Going.{without_going}
 use Rattle.ossl_calls.specs.State.{is_up}
 use Rattle.ossl_calls.proofs.GoingLaws.{is_up-without, up_at-without}
-use Rattle.ossl_calls.proofs.UpLaws.{ArePartly, partly-up, partly-gone, partly-kept, list_all-get_or, same_length}
+use Rattle.ossl_calls.proofs.UpLaws.{partly-up, partly-gone, partly-kept, list_all-get_or, same_length}
 use Rattle.ossl_calls.proofs.going.stop_going.Goals as goal
 use Rattle.ossl_calls.proofs.going.stop_going.Goals.{then-is_up_instance+then-not-is_up_without, else-is_up_instance, else-is_up_instance-via-then-is_up_instance+else-not-is_up_without, else-is_up_instance-via-else-is_up_instance}
 

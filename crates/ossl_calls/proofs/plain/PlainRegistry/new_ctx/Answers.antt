@@ -1,4 +1,4 @@
-use Rattle.std.proofs.Common.{◌≡◌, map, sym, ◌∙◌}
+use Rattle.std.proofs.Common.{map, sym, ◌∙◌}
 use Rattle.ossl_calls.specs.Registry.{state_of}
 use Rattle.ossl_calls.proofs.FetchLaws.{context-keeps}
 use Rattle.ossl_calls.proofs.plain.PlainRegistry.new_ctx.Goals as goal
