@@ -1,8 +1,7 @@
 -- When nothing is up any more.
-use Rattle.std.proofs.Common.{◌≡◌, ℕ, ◌+◌, ◌<◌, ◌≤◌, Bool, true, false, ◌||◌, List, [], ◌∷◌, length, get_or, refl, sym, ap, ◌∙◌, arith, suc, zero}
+use Rattle.std.proofs.Common.{◌≡◌, ℕ, Bool, false, List, [], ◌∷◌, length, get_or, refl, ap, ◌∙◌, arith, suc, zero}
 use Rattle.std.proofs.Math.ListN.{set}
 use Rattle.std.specs.List.{All, filter}
-use Rattle.std.proofs.lemmas.Grind.{common_steps}
 use Rattle.std.proofs.lemmas.List.Elements.{All-from_get_or}
 use Rattle.ossl_base.specs.declared.entry.Entry.{Entry}
 use Rattle.ossl_provider.specs.Sheet.{Sheet}
@@ -13,7 +12,7 @@ use Rattle.ossl_calls.specs.declared.state.State.{State}
 use Rattle.ossl_calls.specs.Boxes.{no_sheet}
 use Rattle.ossl_calls.specs.History.{Fixed, state_after}
 use Rattle.ossl_calls.specs.Registry.{HasSheets, IsDown}
-use Rattle.ossl_calls.specs.State.{is_up, lib_at, no_lib, up_at, up_instances}
+use Rattle.ossl_calls.specs.State.{is_up, lib_at, no_lib, up_instances}
 use Rattle.ossl_calls.specs.Step.{with_closed}
 
 filter_none : {X : Type 0} (p : X → Bool) (xs : List X) → ((x : X) → p x ≡ false) → filter p xs ≡ []
@@ -28,7 +27,7 @@ none_up s no_live no_order = filter_none (is_up s) s.born (λ b. rw (no_order b.
 pub closed_orders : (s : State) → length s.libs ≡ 1 → (l : ℕ) → (lib_at (with_closed s 0) l).order ≡ []
 closed_orders s one l = of s.libs (lib_at s 0) l one
   where
-    of : (libs : List LibCtx) (lib : LibCtx) (l : ℕ) → length libs ≡ 1 → (get_or (set libs 0 (record lib { is_open = false; given = []; order = [] })) l no_lib).order ≡ []
+    of : (libs : List LibCtx) (lib : LibCtx) (l : ℕ) → length libs ≡ 1 → (get_or (set libs 0 (record lib { is_open = false; given = []; order = []; groups = [] })) l no_lib).order ≡ []
     of [] lib l one = absurd (omega (arith, one))
     of (x ∷ []) lib zero one = refl
     of (x ∷ []) lib (suc l) one = refl

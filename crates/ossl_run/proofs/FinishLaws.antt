@@ -1,5 +1,5 @@
 -- What a finished run leaves: nothing is up.
-use Rattle.std.proofs.Common.{◌≡◌, ℕ, ◌+◌, ◌<◌, ◌≤◌, true, false, List, [], ◌∷◌, ◌++◌, length, map, None, refl, sym, ap, subst, ◌∙◌, arith}
+use Rattle.std.proofs.Common.{◌≡◌, ℕ, false, List, [], ◌∷◌, ◌++◌, length, refl, sym, ◌∙◌, arith}
 use Rattle.std.specs.Prelude.{All}
 use Rattle.std.proofs.lemmas.Bool.{true≢false}
 use Rattle.std.proofs.lemmas.List.{nil_from_length}
@@ -10,16 +10,16 @@ use Rattle.ossl_calls.specs.declared.call.Call.TheVariants.{CloseLib}
 use Rattle.ossl_calls.specs.declared.call.Reply.{Reply}
 use Rattle.ossl_calls.specs.declared.call.Reply.TheVariants.{Fetched, Made, Done, NoLib, StartRefused, Unsupported, NotAdmitted}
 use Rattle.ossl_calls.specs.declared.state.State.{State}
-use Rattle.ossl_calls.specs.History.{Fixed, IsLegal, after_entry, state_after}
+use Rattle.ossl_calls.specs.History.{Fixed, IsLegal, state_after}
 use Rattle.ossl_calls.specs.Registry.{HasSheets, IsDown}
-use Rattle.ossl_calls.specs.Sound.{IsSound}
 use Rattle.ossl_calls.specs.State.{lib_at, opening_state, up_instances}
 use Rattle.ossl_calls.specs.Step.{Answers, left_by, with_closed}
 use Rattle.ossl_calls.proofs.HistoryLaws.{IsLegal-last, state_after-push}
 use Rattle.ossl_calls.proofs.LegalLaws.{sound_after}
-use Rattle.ossl_run.specs.Ordered.{IsLine, IsClosing, IsOrderedRun, closing_calls, replies_of}
+use Rattle.ossl_run.specs.declared.line.Line.{Line}
+use Rattle.ossl_run.specs.Ordered.{IsLine, IsClosing, IsOrderedRun, replies_of}
 use Rattle.ossl_run.proofs.DownLaws.{closed_orders, none_up, sheets_down}
-use Rattle.ossl_run.proofs.HeldLaws.{Stands, held, held_at_end, stands_after}
+use Rattle.ossl_run.proofs.HeldLaws.{Stands, held_at_end, stands_after}
 use Rattle.ossl_run.proofs.OpenLaws.{IsOpen}
 
 opening_open : (contexts : ℕ) → contexts ≡ 1 → IsOpen (opening_state contexts)
@@ -41,26 +41,26 @@ closed_down fixed s c (CloseLib l) (Fetched n p i r code) is none one h a = absu
 closed_down fixed s c call reply is none one h a = cc
 
 -- nothing is up after the line and the closing
-ended_down : (fixed : Fixed) (line : List (Entry Call Reply)) (e : Entry Call Reply) → fixed.contexts ≡ 1 → IsLegal fixed (line ++ e ∷ []) → IsLine line →
+ended_down : (fixed : Fixed) (job : Line) (line : List (Entry Call Reply)) (e : Entry Call Reply) → fixed.contexts ≡ 1 → IsLegal fixed (line ++ e ∷ []) → IsLine job line →
     e.call ≡ CloseLib 0 → up_instances (state_after fixed (line ++ e ∷ [])) ≡ []
-ended_down fixed line e one legal made close =
+ended_down fixed job line e one legal made close =
     let parts = IsLegal-last fixed line e legal in
     let s = state_after fixed line in
-    let start : Stands fixed (opening_state fixed.contexts) [] [] = record { sound = sound_after fixed [] tt; few = omega arith; open_lib = opening_open fixed.contexts one } in
-    let stands = stands_after fixed (opening_state fixed.contexts) [] [] line start made.follows parts.0 in
-    let none : s.live ≡ [] = nil_from_length s.live (omega (arith, stands.few, held_at_end (replies_of line) made.ended)) in
+    let start : Stands fixed job (opening_state fixed.contexts) [] [] = record { sound = sound_after fixed [] tt; few = omega arith; open_lib = opening_open fixed.contexts one } in
+    let stands = stands_after fixed job (opening_state fixed.contexts) [] [] line start made.follows parts.0 in
+    let none : s.live ≡ [] = nil_from_length s.live (omega (arith, stands.few, held_at_end job (replies_of line) made.ended)) in
     let sound = sound_after fixed line parts.0 in
     rw (state_after-push fixed line e) (closed_down fixed s e.caller e.call e.reply close none (sound.instances.contexts ∙ one) stands.open_lib parts.1.answers)
 
 -- a run that is ordered and legal leaves each box with nothing up
-pub finished_down : (fixed : Fixed) (sheets : List Sheet) (entries : List (Entry Call Reply)) → fixed.contexts ≡ 1 → IsLegal fixed entries → IsOrderedRun entries →
+pub finished_down : (fixed : Fixed) (job : Line) (sheets : List Sheet) (entries : List (Entry Call Reply)) → fixed.contexts ≡ 1 → IsLegal fixed entries → IsOrderedRun job entries →
     HasSheets fixed sheets entries → All IsDown sheets
-finished_down fixed sheets entries one legal run kept = sheets_down fixed sheets entries kept (of run.closing run.closed run.parts)
+finished_down fixed job sheets entries one legal run kept = sheets_down fixed sheets entries kept (of run.closing run.closed run.parts)
   where
-    of : (closing : List (Entry Call Reply)) → IsClosing closing → entries ≡ run.line ++ closing → up_instances (state_after fixed entries) ≡ []
+    of : (closing : List (Entry Call Reply)) → IsClosing closing → entries ≡ run.made ++ closing → up_instances (state_after fixed entries) ≡ []
     of [] closed parts = absurd (cc (closed.calls))
     of (e ∷ []) closed parts =
         let call : e.call ≡ CloseLib 0 = cc (closed.calls) in
-        let whole : IsLegal fixed (run.line ++ e ∷ []) = rw parts at legal in
-        rw parts (ended_down fixed run.line e one whole run.made call)
+        let whole : IsLegal fixed (run.made ++ e ∷ []) = rw parts at legal in
+        rw parts (ended_down fixed job run.made e one whole run.ran call)
     of (e ∷ f ∷ closing) closed parts = absurd (cc (closed.calls))

@@ -1,23 +1,21 @@
 -- The library context stays open while the line runs.
-use Rattle.std.proofs.Common.{◌≡◌, ℕ, ◌+◌, ◌<◌, ◌≤◌, true, false, List, [], ◌∷◌, ◌++◌, length, get_or, None, Some, refl, sym, ap, ◌∙◌, arith, inl, inr}
+use Rattle.std.proofs.Common.{◌≡◌, ℕ, ◌<◌, true, List, [], ◌∷◌, length, get_or, None, Some, arith, inl, inr}
 use Rattle.std.proofs.Math.ListN.{set, length-set}
 use Rattle.std.specs.declared.option.Option.{Option}
 use Rattle.std.proofs.lemmas.Bool.{cases_Bool}
-use Rattle.ossl_base.specs.declared.entry.Entry.{Entry}
 use Rattle.ossl_provider.specs.Sheet.{Facts}
-use Rattle.ossl_provider.specs.declared.code.Operation.{Operation}
-use Rattle.ossl_calls.specs.declared.call.Query.{Query}
-use Rattle.ossl_calls.specs.declared.call.Call.{Call}
-use Rattle.ossl_calls.specs.declared.call.Call.TheVariants.{Fetch, NewCtx, Free, FreeCtx, CloseLib}
+use Rattle.ossl_codes.specs.declared.code.Operation.{Operation}
+use Rattle.ossl_property.specs.declared.clause.Clause.{Clause}
+use Rattle.ossl_calls.specs.declared.call.Call.TheVariants.{Fetch, NewCtx, Free, FreeCtx}
 use Rattle.ossl_calls.specs.declared.call.Reply.{Reply}
-use Rattle.ossl_calls.specs.declared.call.Reply.TheVariants.{Fetched, Made, Done, NoLib, StartRefused, Unsupported, NotAdmitted}
+use Rattle.ossl_calls.specs.declared.call.Reply.TheVariants.{Fetched, Made, Done, Unsupported}
 use Rattle.ossl_calls.specs.declared.state.Choice.{Choice}
 use Rattle.ossl_calls.specs.declared.state.LibCtx.{LibCtx}
 use Rattle.ossl_calls.specs.declared.state.Live.{Live}
 use Rattle.ossl_calls.specs.declared.state.State.{State}
 use Rattle.ossl_calls.specs.Best.{best_method}
 use Rattle.ossl_calls.specs.State.{lib_at, no_lib, is_active_box}
-use Rattle.ossl_calls.specs.Step.{Answers, after_activation, after_fallback, after_fallback_to, element_of, fallback_of, held_instance, left_by, with_context, with_instance, with_method}
+use Rattle.ossl_calls.specs.Step.{after_activation, after_fallback, after_fallback_to, element_of, fallback_of, grouped_of, held_instance, left_by, offer_of, with_groups, with_context, with_instance, with_method}
 
 -- the first library context is there, and is open
 pub record IsOpen (s : State) : Type 0 where
@@ -38,7 +36,11 @@ open_after-activation facts s k h = elim (cases_Bool (is_active_box k (lib_at s 
 ]
   where
     instance : (o : Option ℕ) → IsOpen (with_instance facts s 0 k o)
-    instance None = record { there = still_there s.libs _ h.there; open_lib = replaced s.libs _ h.there h.open_lib }
+    instance None =
+        let g = with_groups s 0 (offer_of facts s 0 k).groups in
+        let grouped : (lib_at g 0).is_open ≡ true = replaced s.libs (grouped_of (lib_at s 0) (offer_of facts s 0 k).groups) h.there h.open_lib in
+        let inside = still_there s.libs (grouped_of (lib_at s 0) (offer_of facts s 0 k).groups) h.there in
+        record { there = still_there g.libs _ inside; open_lib = replaced g.libs _ inside grouped }
     instance (Some n) = record { there = still_there s.libs _ h.there; open_lib = replaced s.libs _ h.there h.open_lib }
 
 open_after-fallback : (facts : List Facts) (s : State) → IsOpen s → IsOpen (after_fallback facts s 0)
@@ -59,7 +61,7 @@ open_with-context s c inner None h = h
 open_with-context s c inner (Some m) h = record { there = h.there; open_lib = h.open_lib }
 
 -- a fetch from the first library context keeps it open
-pub open_after-fetch : (facts : List Facts) (s : State) (c : ℕ) (op : Operation) (name : List ℕ) (query : Query) (reply : Reply) → IsOpen s → IsOpen (left_by facts s c (Fetch 0 op name query) reply)
+pub open_after-fetch : (facts : List Facts) (s : State) (c : ℕ) (op : Operation) (name : List ℕ) (query : List Clause) (reply : Reply) → IsOpen s → IsOpen (left_by facts s c (Fetch 0 op name query) reply)
 open_after-fetch facts s c op name query (Fetched n p i r code) h =
     open_with-method (after_fallback facts s 0) c (best_method (after_fallback facts s 0) 0 op name query) (open_after-fallback facts s h)
 open_after-fetch facts s c op name query Unsupported h = open_after-fallback facts s h

@@ -1,5 +1,5 @@
 -- What a run leaves: the statuses with their causes, and what holds of a finished run.
-use Rattle.std.specs.Prelude.{ℕ, ◌≡◌, ◌≤◌, ◌⊎◌, ⊤, Bool, true, false, if◌then◌else◌, All, IsTrue, IsFalse, IfSome, List, [], ◌∷◌, map, None, Some}
+use Rattle.std.specs.Prelude.{ℕ, ◌≡◌, ◌⊎◌, Bool, if◌then◌else◌, All, IsTrue, IsFalse, IfSome, List, map, None, Some}
 use Rattle.std.specs.declared.option.Option.{Option}
 use Rattle.std.specs.Io.KnownBytes.{Appends}
 use Rattle.ossl_base.specs.declared.entry.Entry.{Entry}
@@ -10,7 +10,7 @@ use Rattle.ossl_calls.specs.History.{Fixed, IsLegal}
 use Rattle.ossl_calls.specs.Registry.{HasSheets, IsDown}
 use Rattle.ossl_run.specs.declared.refusal.Refusal.{Refusal}
 use Rattle.ossl_run.specs.declared.refusal.Refusal.TheVariants.{Usage, Read, Form, Bytes, NoMemory}
-use Rattle.ossl_run.specs.Batch.{piece_of}
+use Rattle.ossl_run.specs.Batch.{batch_line}
 use Rattle.ossl_run.specs.Printed.{printed_run}
 use Rattle.ossl_run.specs.Ordered.{IsOrderedRun}
 use Rattle.ossl_run.specs.Refused.{batch_refusal, line_of, status_of}
@@ -19,11 +19,10 @@ use Rattle.ossl_run.specs.Refused.{batch_refusal, line_of, status_of}
 abbrev pub opened_over : {P : Type 0} → (P → Facts) → (P → Sheet) → List P → Fixed
 opened_over facts sheet catalogue = record { facts = map facts catalogue; contexts = 1; opened = map (λ b. (sheet b).faults) catalogue }
 
--- a finished run: its history is legal over the boxes, the callers' calls stand in their order, each box has done what
--- the history says, with as many faults more as starts were refused, and nothing is up
+-- a finished run: its history is legal over the boxes, each box has done what the history says, with as many faults more
+-- as starts were refused, and nothing is up
 pub record IsFinished (fixed : Fixed) (sheets : List Sheet) (entries : List (Entry Call Reply)) : Type 0 where
   pub legal : IsLegal fixed entries
-  pub ordered : IsOrderedRun entries
   pub sheets_kept : HasSheets fixed sheets entries
   pub down : All IsDown sheets
 
@@ -52,10 +51,11 @@ IsCause Bytes is_run left read_failed = IsTrue is_run × IfSome left (λ bs. bat
 IsCause Form is_run left read_failed = IsTrue is_run × IfSome left (λ bs. batch_refusal bs ≡ Some Form)
 IsCause NoMemory is_run left read_failed = IsTrue is_run
 
--- a finished run over the batch that the source had left: its words and its bytes are in form, and this is what it prints
+-- a finished run over the batch that the source had left: its words and its bytes are in form, each caller's calls are the
+-- batch's, one by one and to their end, and this is what it prints
 abbrev pub IsRunOf : Bool → Option (List ℕ) → Fixed → List (Entry Call Reply) → List ℕ → Type 0
 IsRunOf is_run left fixed entries output =
-    IsTrue is_run × IfSome left (λ bs. (batch_refusal bs ≡ None) × IfSome (piece_of bs) (λ piece. output ≡ printed_run fixed piece entries))
+    IsTrue is_run × IfSome left (λ bs. (batch_refusal bs ≡ None) × IfSome (batch_line bs) (λ line. IsOrderedRun line entries × (output ≡ printed_run fixed line entries)))
 
 -- a refused run: it has its cause, and its line was written
 abbrev pub IsRefused : Refusal → Bool → Option (List ℕ) → Type 0 → Option (List ℕ) → Option (List ℕ) → Type 0

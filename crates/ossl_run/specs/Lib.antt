@@ -1,4 +1,5 @@
 -- What the contracts of the crate cite.
+pub mod Asked
 pub mod Batch
 pub mod Headline
 pub mod Ordered

@@ -13,6 +13,7 @@ use Rattle.ossl_calls.specs.History.{Fixed, after_entry}
 use Rattle.ossl_calls.specs.State.{opening_state, up_instances}
 use Rattle.ossl_calls.specs.Text.{entry_text}
 use Rattle.ossl_calls.specs.Tokens.{entries_of}
+use Rattle.ossl_run.specs.declared.line.Line.{Line}
 use Rattle.ossl_run.specs.Ordered.{replies_of}
 use Rattle.ossl_run.specs.Script.{result_text}
 
@@ -60,6 +61,6 @@ output_text count lines line_result =
     codes "order " ++ decimal count ++ codes "\n" ++ lines ++ codes "results 1\nline 1 " ++ line_result ++ codes "\n"
 
 -- the whole output of a finished run: its order, and the result of the line by the replies to caller 1
-abbrev pub printed_run : Fixed → List ℕ → List (Entry Call Reply) → List ℕ
-printed_run fixed piece entries =
-    output_text (length entries) (lines_of fixed entries) (result_text piece (replies_of (entries_of 1 entries)))
+abbrev pub printed_run : Fixed → Line → List (Entry Call Reply) → List ℕ
+printed_run fixed line entries =
+    output_text (length entries) (lines_of fixed entries) (result_text line (replies_of (entries_of 1 entries)))

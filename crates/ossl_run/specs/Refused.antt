@@ -1,9 +1,9 @@
 -- Why a run ends before it begins, with its status and its line.
-use Rattle.std.specs.Prelude.{ℕ, ◌<◌, Bool, true, false, not, nat_lt, if◌then◌else◌, List, [], length, codes, Some, None, is_none}
+use Rattle.std.specs.Prelude.{ℕ, nat_lt, if◌then◌else◌, List, [], length, codes, Some, None, is_none}
 use Rattle.std.specs.declared.option.Option.{Option}
 use Rattle.ossl_run.specs.declared.refusal.Refusal.{Refusal}
 use Rattle.ossl_run.specs.declared.refusal.Refusal.TheVariants.{Usage, Read, Form, Bytes, NoMemory}
-use Rattle.ossl_run.specs.Batch.{piece_of}
+use Rattle.ossl_run.specs.Batch.{batch_line}
 
 -- the greatest number of bytes of a batch
 abbrev pub most_bytes : ℕ
@@ -27,5 +27,5 @@ line_of NoMemory = []
 abbrev pub batch_refusal : List ℕ → Option Refusal
 batch_refusal bytes =
     if nat_lt most_bytes (length bytes) then Some Bytes
-    else if is_none (piece_of bytes) then Some Form
+    else if is_none (batch_line bytes) then Some Form
     else None

@@ -3,6 +3,7 @@
 //! Batch, output and statuses are the project's own (docs/manual); the digest is FIPS 180-4's. Work grows with the bytes and the entries.
 #![tactic(auto)]
 
+pub mod asked;
 pub mod line;
 pub mod outcome;
 pub mod print;

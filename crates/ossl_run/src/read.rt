@@ -1,12 +1,12 @@
 ghost use Rattle.std.specs.Prelude.{◌≡◌, ◌≤◌, IfOk, IfErr, IfSome, OnOk, IsTrue, IsFalse, Some, None};
 ghost use Rattle.std.specs.Io.KnownBytes.{Consumes, IsAtEnd};
 ghost use Rattle.ossl_base.specs.Causes.{Rose};
-ghost use Rattle.ossl_run.specs.Batch.{piece_of};
+ghost use Rattle.ossl_run.specs.Batch.{batch_line};
 ghost use Rattle.ossl_run.specs.Headline.{IsCause};
 ghost use Rattle.ossl_run.specs.Refused.{batch_refusal};
 ghost use Rattle.ossl_run.specs.Words.{is_run};
 
-use crate::line::{LineRefused, read_line};
+use crate::line::{Line, LineRefused, read_line};
 use crate::refusal::Refusal;
 use crate::words::are_run;
 use ossl_base::stream::Source;
@@ -16,9 +16,9 @@ use std::alloc::Global;
 /// The greatest number of bytes of a batch.
 pub const MOST_BYTES: u64 = 16_777_216;
 
-/// Reads the batch to its end, and gives the bytes to be hashed.
-fn read_batch<S: Source>(alloc: Global, source: &mut S) -> Result<Vec<u8>, Refusal>
-    ensures piece { IfOk result (λ piece. IfSome (S.left source.old) (λ bs. (batch_refusal bs ≡ None) × (piece_of bs ≡ Some piece.items))) }
+/// Reads the batch to its end, and gives its line.
+fn read_batch<S: Source>(alloc: Global, source: &mut S) -> Result<Line, Refusal>
+    ensures line { IfOk result (λ line. IfSome (S.left source.old) (λ bs. (batch_refusal bs ≡ None) × (batch_line bs ≡ Some line))) }
     ensures ended { OnOk result (IsAtEnd (S.left source.new)) }
     ensures usage { (result ≡ Err Refusal.Usage) → ⊥ }
     ensures read { result ≡ Err Refusal.Read → Rose (S.faults source.old) (S.faults source.new) }
@@ -28,7 +28,7 @@ fn read_batch<S: Source>(alloc: Global, source: &mut S) -> Result<Vec<u8>, Refus
 {
     match read_all(alloc, source, MOST_BYTES) {
         Ok(text) => match read_line(alloc, text.as_slice()) {
-            Ok(piece) => Ok(piece),
+            Ok(line) => Ok(line),
             Err(LineRefused::Form) => Err(Refusal::Form),
             Err(LineRefused::NoMemory) => Err(Refusal::NoMemory),
         },
@@ -38,14 +38,10 @@ fn read_batch<S: Source>(alloc: Global, source: &mut S) -> Result<Vec<u8>, Refus
     }
 }
 
-/// Judges the words, and then reads the batch, and gives the bytes to be hashed. Where the words are wrong nothing is read.
-pub fn read_piece<S: Source>(
-    alloc: Global,
-    words: &[String],
-    source: &mut S,
-) -> Result<Vec<u8>, Refusal>
+/// Judges the words, and then reads the batch, and gives its line. Where the words are wrong nothing is read.
+pub fn read_job<S: Source>(alloc: Global, words: &[String], source: &mut S) -> Result<Line, Refusal>
     ensures words { OnOk result (IsTrue (is_run words.now)) }
-    ensures piece { IfOk result (λ piece. IfSome (S.left source.old) (λ bs. (batch_refusal bs ≡ None) × (piece_of bs ≡ Some piece.items))) }
+    ensures line { IfOk result (λ line. IfSome (S.left source.old) (λ bs. (batch_refusal bs ≡ None) × (batch_line bs ≡ Some line))) }
     ensures ended { OnOk result (IsAtEnd (S.left source.new)) }
     ensures refused { IfErr result (λ refusal. IsCause refusal (is_run words.now) (S.left source.old) (Rose (S.faults source.old) (S.faults source.new))) }
     ensures unread { IsFalse (is_run words.now) → (result ≡ Err Refusal.Usage) × (source.new ≡ source.old) }

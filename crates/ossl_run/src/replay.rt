@@ -1,26 +1,30 @@
-ghost use Rattle.std.specs.Prelude.{◌≡◌, ◌⊎◌, ◌∷◌, [], ℕ, List, map, IfOk, IfSome, OnOk, IsTrue, IsFalse, Some, None};
+ghost use Rattle.std.specs.Prelude.{◌≡◌, ◌⊎◌, ◌<◌, ◌∷◌, [], ℕ, List, map, IfOk, IfSome, OnOk, IsTrue, IsFalse, Some, None};
 ghost use Rattle.std.specs.Io.KnownBytes.{Appends, IsAtEnd};
 ghost use Rattle.ossl_base.specs.Causes.{Rose};
 ghost use Rattle.ossl_base.specs.Whole.{AppendsPrefix};
 ghost use Rattle.ossl_calls.specs.History.{IsLegal};
 ghost use Rattle.ossl_calls.specs.Registry.{IsCatalogue, fixed_of};
-ghost use Rattle.ossl_run.specs.Batch.{piece_of};
 ghost use Rattle.ossl_run.specs.Headline.{Ends, IsDue, IsFinished, IsRefused, IsRunOf, IsStatus, due_status, opened_over};
+ghost use Rattle.ossl_run.specs.Ordered.{IsOrderedRun};
 ghost use Rattle.ossl_run.specs.Printed.{printed_run};
 ghost use Rattle.ossl_run.specs.Words.{is_run};
 ghost use Rattle.ossl_run.specs.Refused.{line_of, status_of};
 
+use crate::line::Line;
 use crate::outcome::Outcome;
-use crate::read::read_piece;
+use crate::read::read_job;
 use crate::refusal::Refusal;
 use crate::run::run_to_end;
 use ossl_base::files::Files;
 use ossl_base::stream::{Sink, Source};
 use ossl_base::whole::write_all;
 use ossl_calls::plain::PlainRegistry;
+use ossl_property::Steps;
 use ossl_provider::boxed::Boxed;
 use ossl_provider::provider::Provider;
 use std::alloc::{AllocError, Global};
+use std::marker::Brand;
+use std::sync::ledger::{Blank, Ledger};
 
 /// What a run leaves, and what is to be written: nothing where memory was refused.
 #[derive(Drop)]
@@ -39,11 +43,12 @@ fn one_caller(alloc: Global) -> Result<Vec<u64>, AllocError>
 }
 
 /// Runs the line over a registry that was just opened, and closes the registry.
-fn run_over<P: Provider>(
+fn run_over<P: Provider, L: Ledger>(
     alloc: Global,
     mut registry: PlainRegistry<P>,
     callers: Vec<u64>,
-    piece: &[u8],
+    line: &Line,
+    steps: &mut Steps<L>,
 ) -> Ran<P>
     requires fresh { registry.entries ≡ [] }
     requires contexts { registry.contexts ≡ 1 }
@@ -53,11 +58,12 @@ fn run_over<P: Provider>(
     ensures legal { IsLegal (fixed_of P.facts registry) result.outcome.history.items }
     ensures finished { result.outcome.status ≡ 0 →
         IsFinished (fixed_of P.facts registry) (map P.sheet result.outcome.catalogue.items) result.outcome.history.items }
+    ensures ordered { result.outcome.status ≡ 0 → IsOrderedRun line.now result.outcome.history.items }
     ensures output { result.outcome.status ≡ 0 →
-        result.output.items ≡ printed_run (fixed_of P.facts registry) piece.now result.outcome.history.items }
+        result.output.items ≡ printed_run (fixed_of P.facts registry) line.now result.outcome.history.items }
     ensures nothing { result.outcome.status ≡ 9 → result.output.items ≡ [] }
 {
-    let ran = run_to_end(alloc, &mut registry, piece);
+    let ran = run_to_end(alloc, &mut registry, line, steps);
     let (history, catalogue) = registry.close();
     let (status, output) = match ran {
         Ok(output) => (0, output),
@@ -75,8 +81,16 @@ fn run_over<P: Provider>(
 }
 
 /// Runs the line over a catalogue.
-fn run_batch<P: Provider>(alloc: Global, catalogue: Vec<P>, piece: &[u8]) -> Ran<P>
-    requires { IsCatalogue (map P.facts catalogue.items) (map P.sheet catalogue.items) }
+fn run_batch<P: Provider, L: Ledger>(
+    alloc: Global,
+    blank: Blank,
+    catalogue: Vec<P>,
+    line: &Line,
+) -> Ran<P>
+    requires name { blank.name ≡ L.name }
+    requires parts { blank.parts ≡ L.parts }
+    requires some { 0 < L.parts }
+    requires catalogue { IsCatalogue (map P.facts catalogue.items) (map P.sheet catalogue.items) }
     ensures status { (result.outcome.status ≡ 0) ⊎ (result.outcome.status ≡ 9) }
     ensures callers { result.outcome.status ≡ 0 → result.outcome.callers.items ≡ 1 ∷ [] }
     ensures unstarted { result.outcome.callers.items ≡ [] → (result.outcome.history.items ≡ []) × (result.outcome.catalogue.items ≡ catalogue.items) }
@@ -84,15 +98,19 @@ fn run_batch<P: Provider>(alloc: Global, catalogue: Vec<P>, piece: &[u8]) -> Ran
     ensures legal { IsLegal (opened_over P.facts P.sheet catalogue.items) result.outcome.history.items }
     ensures finished { result.outcome.status ≡ 0 →
         IsFinished (opened_over P.facts P.sheet catalogue.items) (map P.sheet result.outcome.catalogue.items) result.outcome.history.items }
+    ensures ordered { result.outcome.status ≡ 0 → IsOrderedRun line.now result.outcome.history.items }
     ensures output { result.outcome.status ≡ 0 →
-        result.output.items ≡ printed_run (opened_over P.facts P.sheet catalogue.items) piece.now result.outcome.history.items }
+        result.output.items ≡ printed_run (opened_over P.facts P.sheet catalogue.items) line.now result.outcome.history.items }
     ensures nothing { result.outcome.status ≡ 9 → result.output.items ≡ [] }
 {
     let Ok(callers) = one_caller(alloc) else {
         return no_run(alloc, catalogue);
     };
     match PlainRegistry::open(alloc, catalogue, 1) {
-        Ok(registry) => run_over(alloc, registry, callers, piece),
+        Ok(registry) => {
+            let mut steps = Steps::<L>::new(blank);
+            run_over(alloc, registry, callers, line, &mut steps)
+        }
         Err(refused) => no_run(alloc, refused.catalogue),
     }
 }
@@ -229,8 +247,11 @@ pub fn replay<S: Source, F: Files, K: Sink>(
     ensures facts { map (λ b. facts b) result.catalogue.items ≡ map (λ b. facts b) catalogue.items }
 {
     let _ = &files;
-    match read_piece(alloc, words, source) {
-        Ok(piece) => deliver(sink, run_batch(alloc, catalogue, piece.as_slice())),
+    match read_job(alloc, words, source) {
+        Ok(line) => {
+            let ran = run_batch::<Boxed, Brand>(alloc, Blank::new(1), catalogue, &line);
+            deliver(sink, ran)
+        }
         Err(refusal) => refuse(alloc, sink, refusal, catalogue),
     }
 }

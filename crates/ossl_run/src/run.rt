@@ -3,24 +3,30 @@ ghost use Rattle.ossl_calls.specs.History.{IsAllowed};
 ghost use Rattle.ossl_calls.specs.Registry.{fixed_of};
 ghost use Rattle.ossl_calls.specs.Tokens.{entries_of};
 ghost use Rattle.ossl_run.specs.Ordered.{IsLine, IsOrderedRun, replies_of};
+ghost use Rattle.ossl_run.specs.Asked.{IsAsked};
 ghost use Rattle.ossl_run.specs.Script.{result_text};
 ghost use Rattle.ossl_run.specs.Printed.{lines_of, output_text, printed_run};
 
+use crate::asked::{Asked, read_query};
+use crate::line::Line;
 use crate::print::put_line;
 use crate::script::{next_call_after, put_result};
 use ossl_base::digits::put_decimal;
 use ossl_calls::call::{Call, Reply};
 use ossl_calls::plain::PlainRegistry;
+use ossl_property::Steps;
 use ossl_provider::provider::Provider;
 use std::alloc::{AllocError, Global};
+use std::sync::ledger::Ledger;
 
 /// Makes one call, and appends the line of its entry to the lines of the history.
-fn perform<P: Provider>(
+fn perform<P: Provider, L: Ledger>(
     alloc: Global,
     registry: &mut PlainRegistry<P>,
     lines: &mut Vec<u8>,
     caller: u64,
     call: &Call,
+    steps: &mut Steps<L>,
 ) -> Result<Reply, AllocError>
     requires allowed { IsAllowed (fixed_of P.facts registry.old) (entries_of caller registry.old.entries) call.now }
     requires printed { lines.old.items ≡ lines_of (fixed_of P.facts registry.old) registry.old.entries }
@@ -30,7 +36,7 @@ fn perform<P: Provider>(
     ensures fixed { fixed_of P.facts registry.new ≡ fixed_of P.facts registry.old }
 {
     let before = registry.up()?;
-    let reply = registry.apply(caller, call)?;
+    let reply = registry.apply(caller, call, steps)?;
     let after = registry.up()?;
     put_line(
         alloc,
@@ -44,22 +50,26 @@ fn perform<P: Provider>(
 }
 
 /// Makes the calls of the line for caller 1, up to its end, and gives the replies.
-fn run_line<P: Provider>(
+fn run_line<P: Provider, L: Ledger>(
     alloc: Global,
     registry: &mut PlainRegistry<P>,
     lines: &mut Vec<u8>,
+    line: &Line,
+    asked: &Asked,
+    steps: &mut Steps<L>,
 ) -> Result<Vec<Reply>, AllocError>
     requires fresh { registry.old.entries ≡ [] }
     requires contexts { registry.old.contexts ≡ 1 }
     requires printed { lines.old.items ≡ [] }
-    ensures line { OnOk result (IsLine registry.new.entries) }
+    requires asked { IsAsked asked.now line.now.query }
+    ensures line { OnOk result (IsLine line.now registry.new.entries) }
     ensures replies { IfOk result (λ replies. replies.items ≡ replies_of registry.new.entries) }
     ensures printed { OnOk result (lines.new.items ≡ lines_of (fixed_of P.facts registry.new) registry.new.entries) }
     ensures fixed { fixed_of P.facts registry.new ≡ fixed_of P.facts registry.old }
 {
     let mut replies = Vec::new(alloc);
-    while let Some(call) = next_call_after(alloc, replies.as_slice())? {
-        let reply = perform(alloc, registry, lines, 1, &call)?;
+    while let Some(call) = next_call_after(alloc, line, asked, replies.as_slice())? {
+        let reply = perform(alloc, registry, lines, 1, &call, steps)?;
         replies.push(reply)?;
     }
     Ok(replies)
@@ -70,10 +80,12 @@ fn whole_output(
     alloc: Global,
     count: u64,
     lines: &[u8],
-    piece: &[u8],
+    line: &Line,
+    asked: &Asked,
     replies: &[Reply],
 ) -> Result<Vec<u8>, AllocError>
-    ensures { IfOk result (λ output. output.items ≡ output_text count lines.now (result_text piece.now replies.now)) }
+    requires asked { IsAsked asked.now line.now.query }
+    ensures { IfOk result (λ output. output.items ≡ output_text count lines.now (result_text line.now replies.now)) }
 {
     let mut output = Vec::new(alloc);
     output.extend_from_slice(b"order ")?;
@@ -81,27 +93,37 @@ fn whole_output(
     output.extend_from_slice(b"\n")?;
     output.extend_from_slice(lines)?;
     output.extend_from_slice(b"results 1\nline 1 ")?;
-    put_result(alloc, &mut output, piece, replies)?;
+    put_result(alloc, &mut output, line, asked, replies)?;
     output.extend_from_slice(b"\n")?;
     Ok(output)
 }
 
 /// Runs the line of caller 1 and the closing over a registry without entries, and gives the output.
-pub fn run_to_end<P: Provider>(
+pub fn run_to_end<P: Provider, L: Ledger>(
     alloc: Global,
     registry: &mut PlainRegistry<P>,
-    piece: &[u8],
+    line: &Line,
+    steps: &mut Steps<L>,
 ) -> Result<Vec<u8>, AllocError>
     requires fresh { registry.old.entries ≡ [] }
     requires contexts { registry.old.contexts ≡ 1 }
-    ensures ordered { OnOk result (IsOrderedRun registry.new.entries) }
+    ensures ordered { OnOk result (IsOrderedRun line.now registry.new.entries) }
     ensures output { IfOk result (λ output.
-        output.items ≡ printed_run (fixed_of P.facts registry.new) piece.now registry.new.entries) }
+        output.items ≡ printed_run (fixed_of P.facts registry.new) line.now registry.new.entries) }
     ensures fixed { fixed_of P.facts registry.new ≡ fixed_of P.facts registry.old }
 {
+    let asked = read_query(alloc, line.query.as_slice())?;
     let mut lines = Vec::new(alloc);
-    let replies = run_line(alloc, registry, &mut lines)?;
-    perform(alloc, registry, &mut lines, 0, &Call::CloseLib { lib: 0 })?;
+    let replies = run_line(alloc, registry, &mut lines, line, &asked, steps)?;
+    let closing = Call::CloseLib { lib: 0 };
+    perform(alloc, registry, &mut lines, 0, &closing, steps)?;
     let count = registry.history().len() as u64;
-    whole_output(alloc, count, lines.as_slice(), piece, replies.as_slice())
+    whole_output(
+        alloc,
+        count,
+        lines.as_slice(),
+        line,
+        &asked,
+        replies.as_slice(),
+    )
 }

@@ -32,19 +32,48 @@ fn text(alloc: Global, bytes: &[u8]) -> Result<Text, AllocError>
     Ok(Text::of(Vec::from_slice(alloc, bytes)?))
 }
 
+fn row(alloc: Global, names: &[u8], definition: &[u8]) -> Result<TableRow, AllocError> {
+    Ok(TableRow {
+        names: text(alloc, names)?,
+        definition: text(alloc, definition)?,
+        code: Code::Sha256,
+    })
+}
+
 /// A provider with one row of this name.
 fn provider(alloc: Global, name: &[u8], algorithm: &[u8]) -> Result<TableProvider, AllocError>
     ensures name { IfOk result (λ table. (table_facts table).name ≡ name.now) }
     ensures rows { IfOk result (λ table. length (table_facts table).rows ≤ 256) }
     ensures idle { IfOk result (λ table. IsIdle (table_sheet table)) }
 {
-    let mut rows = Vec::new(alloc);
-    rows.push(TableRow {
-        names: text(alloc, algorithm)?,
-        definition: text(alloc, b"provider=test")?,
-        code: Code::Sha256,
-    })?;
+    let rows = Vec::from_array(alloc, [row(alloc, algorithm, b"provider=test")?])?;
     TableProvider::new(alloc, text(alloc, name)?, rows, 0)
+}
+
+/// The provider `default` with five rows: two that differ in a property, one whose names are in conflict, one whose
+/// definition is none, and one of SHA-224.
+fn five_rows(alloc: Global) -> Result<TableProvider, AllocError>
+    ensures rows { IfOk result (λ table. length (table_facts table).rows ≤ 256) }
+    ensures idle { IfOk result (λ table. IsIdle (table_sheet table)) }
+{
+    let other = TableRow {
+        names: text(alloc, b"SHA2-224")?,
+        definition: text(alloc, b"")?,
+        code: Code::Sha224,
+    };
+    let rows = [
+        row(alloc, b"SHA2-256:B", b"provider=default")?,
+        row(alloc, b"C", b"provider=default,fast")?,
+        row(alloc, b"B:C", b"provider=default")?,
+        row(alloc, b"D", b"a=1,a=2")?,
+        other,
+    ];
+    TableProvider::new(
+        alloc,
+        text(alloc, b"default")?,
+        Vec::from_array(alloc, rows)?,
+        0,
+    )
 }
 
 /// The words `run`.
@@ -156,10 +185,110 @@ fn without_the_default_provider_nothing_is_supported(rt: HostRuntime) -> Result<
         output: UNSUPPORTED,
         ..PLAIN
     };
-    let other: Boxed = Box::new(alloc, provider(alloc, b"A", b"SHA2-256")?)?;
-    let mut catalogue: Vec<Boxed> = Vec::new(alloc);
-    catalogue.push(other).map_err(AllocError::from)?;
+    let first: Boxed = Box::new(alloc, provider(alloc, b"A", b"SHA2-256")?)?;
+    let second: Boxed = Box::new(alloc, provider(alloc, b"B", b"SHA2-256")?)?;
+    let catalogue = Vec::from_array(alloc, [first, second])?;
     compare(alloc, &rt, words.as_slice(), &case, catalogue)?;
+    Ok(())
+}
+
+/// Runs a case over the box `default` with five rows, and compares.
+fn compare_with_five(alloc: Global, rt: &impl Abort, case: &Case) -> Result<(), AllocError>
+    requires { 0 < case.now.most }
+{
+    let words = run_words(alloc)?;
+    let default: Boxed = Box::new(alloc, five_rows(alloc)?)?;
+    let catalogue = Vec::from_array(alloc, [default])?;
+    compare(alloc, rt, words.as_slice(), case, catalogue)
+}
+
+// By any of its names in either case, by a query, by none of them; a row that was left out; an algorithm whose work is not built.
+#[test]
+fn names_and_queries_choose(rt: HostRuntime) -> Result<(), Fail> {
+    let alloc = rt.alloc();
+    let rows: [(&[u8], &[u8]); 7] = [
+        (
+            b"1 dgst b hex: : provider=default,?fast\n",
+            b"order 5\n\
+            1 1 fetch 0 digest b [provider=default,?fast=yes]: ok default 1 0; start default 1\n\
+            2 1 newctx 1 - 0: ok\n3 1 freectx 2: ok\n4 1 free 1: ok\n\
+            5 0 closelib 0: ok; stop default 1\nresults 1\n\
+            line 1 ok default e3b0c44298fc1c149afbf4c8996fb92427ae41e4649b934ca495991b7852b855\n",
+        ),
+        (
+            b"1 dgst c hex: : -fast",
+            b"order 5\n\
+            1 1 fetch 0 digest c [-fast]: ok default 1 1; start default 1\n\
+            2 1 newctx 1 - 0: ok\n3 1 freectx 2: ok\n4 1 free 1: ok\n\
+            5 0 closelib 0: ok; stop default 1\nresults 1\n\
+            line 1 ok default e3b0c44298fc1c149afbf4c8996fb92427ae41e4649b934ca495991b7852b855\n",
+        ),
+        (
+            b"1 dgst C hex: : fast=no",
+            b"order 2\n\
+            1 1 fetch 0 digest C [fast=no]: unsupported; start default 1\n\
+            2 0 closelib 0: ok; stop default 1\nresults 1\nline 1 error unsupported\n",
+        ),
+        (
+            b"1 dgst D hex:",
+            b"order 2\n\
+            1 1 fetch 0 digest D []: unsupported; start default 1\n\
+            2 0 closelib 0: ok; stop default 1\nresults 1\nline 1 error unsupported\n",
+        ),
+        (
+            b"1 dgst SHA2-224 hex:",
+            b"order 3\n\
+            1 1 fetch 0 digest SHA2-224 []: ok default 1 4; start default 1\n2 1 free 1: ok\n\
+            3 0 closelib 0: ok; stop default 1\nresults 1\nline 1 error unbuilt\n",
+        ),
+        (
+            b"1 dgst SHA2-256 hex:616263 : a=1,b,A=2",
+            b"order 1\n\
+            1 0 closelib 0: ok\nresults 1\nline 1 error query 7\n",
+        ),
+        (
+            b"1 dgst SHA2-256 hex: : ",
+            b"order 5\n\
+            1 1 fetch 0 digest SHA2-256 []: ok default 1 0; start default 1\n\
+            2 1 newctx 1 - 0: ok\n3 1 freectx 2: ok\n4 1 free 1: ok\n\
+            5 0 closelib 0: ok; stop default 1\nresults 1\n\
+            line 1 ok default e3b0c44298fc1c149afbf4c8996fb92427ae41e4649b934ca495991b7852b855\n",
+        ),
+    ];
+    for (batch, output) in rows {
+        let case = Case {
+            batch,
+            output,
+            ..PLAIN
+        };
+        compare_with_five(alloc, &rt, &case)?;
+    }
+    Ok(())
+}
+
+#[test]
+fn other_inputs_are_not_the_line(rt: HostRuntime) -> Result<(), Fail> {
+    let alloc = rt.alloc();
+    let lines: [&[u8]; 9] = [
+        b"",
+        b"1 dgst SHA2-256 hex:61 :",
+        b"1 dgst SHA2-256 hex:61 :a=1",
+        b"1 dgst SHA2-256 hex:61  : a=1",
+        b"1 dgst SHA2-256 hex:6 : a=1",
+        b"1 dgst : hex:61",
+        b"1 dgst  hex:61",
+        b"1 dgst SHA2-256 hex:61 : a=1\r\n",
+        b"1 dgst SHA2-256 hex:61 : a=1\n\n",
+    ];
+    for batch in lines {
+        let case = Case {
+            batch,
+            status: 6,
+            output: b"error batch line 1 form\n",
+            ..PLAIN
+        };
+        compare_with_default(alloc, &rt, &case)?;
+    }
     Ok(())
 }
 

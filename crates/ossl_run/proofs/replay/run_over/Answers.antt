@@ -1,4 +1,4 @@
-use Rattle.std.proofs.Common.{◌≡◌, map, refl, sym, ap, ◌∙◌, arith}
+use Rattle.std.proofs.Common.{◌≡◌, map, ap, ◌∙◌, arith}
 use Rattle.ossl_calls.specs.Registry.{fixed_of}
 use Rattle.ossl_run.specs.Headline.{IsFinished}
 use Rattle.ossl_run.proofs.FinishLaws.{finished_down}
@@ -15,9 +15,8 @@ returns-clause-finished g c done = elim c.match-ran.branch [
       let one : fixed.contexts ≡ 1 = ap (λ f. f.contexts) c.run_to_end-ran.ensures.fixed ∙ c.requires.contexts in
       let all : IsFinished fixed sheets ran.entries = record {
         legal = told.legal;
-        ordered = w.in-Ok.ensures.ordered;
         sheets_kept = told.sheets;
-        down = finished_down fixed sheets ran.entries one told.legal w.in-Ok.ensures.ordered told.sheets;
+        down = finished_down fixed c.args.line.now sheets ran.entries one told.legal w.in-Ok.ensures.ordered told.sheets;
       } in
       rw (told.entries, told.boxes, ← c.run_to_end-ran.ensures.fixed) all
   | in-Err w ↦ absurd (omega (arith, done, ap (λ s. s.0) w.status-is))

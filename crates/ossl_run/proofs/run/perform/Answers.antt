@@ -1,4 +1,4 @@
-use Rattle.std.proofs.Common.{◌≡◌, ◌+◌, ◌++◌, ◌∷◌, [], map, length, OnOk, ℕ, List, refl, sym, ap, ◌∙◌, arith}
+use Rattle.std.proofs.Common.{sym, ap, ◌∙◌}
 use Rattle.ossl_calls.specs.Registry.{fixed_of}
 use Rattle.ossl_calls.specs.History.{state_after}
 use Rattle.ossl_run.specs.Printed.{lines_of, ups_of}

@@ -10,7 +10,7 @@ abbrev pub invariant-loop-replies : goal.invariant-loop-replies
 invariant-loop-replies g l =
     let fixed = fixed_of g.P.Provider.facts in
     record {
-      follows : Follows [] l.registry.entries;
+      follows : Follows l.line [] l.registry.entries;
       replied : l.replies.items ≡ replies_of l.registry.entries;
       printed : l.lines.items ≡ lines_of (fixed l.registry) l.registry.entries;
       fixed : fixed l.registry ≡ fixed l.fn.registry;
