@@ -2,21 +2,22 @@
 # test: the gate: every proof, must-fail edit, test and program, and then the cases
 # build: the proved programs, each left at crates/NAME/out/NAME
 # check CRATE=NAME: one crate, while you write it
-.PHONY: demo test build check
+PROGRAMS = ossl_replay ossl_speed
+.PHONY: demo test build check $(PROGRAMS)
 
-PROGRAM = crates/ossl_replay/out/ossl_replay
-
-demo: build
+demo: ossl_replay
 	@echo '$$ printf "1 dgst SHA2-256 hex:616263" | ossl_replay run'
-	@printf '1 dgst SHA2-256 hex:616263' | $(PROGRAM) run
+	@printf '1 dgst SHA2-256 hex:616263' | crates/ossl_replay/out/ossl_replay run
 
 test:
 	rt ci
-	test -x $(PROGRAM) || $(MAKE) build
+	for name in $(PROGRAMS); do test -x crates/$$name/out/$$name || $(MAKE) $$name || exit 1; done
 	cases/run
 
-build:
-	cd crates/ossl_replay && rt run -- run < stdin > /dev/null
+build: $(PROGRAMS)
+
+$(PROGRAMS):
+	cd crates/$@ && rt run -- $$(cat args) < $$(test -f stdin && echo stdin || echo /dev/null) > /dev/null
 
 check:
 	cd crates/$(CRATE) && rt check

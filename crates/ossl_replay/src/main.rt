@@ -1,40 +1,28 @@
 //! Answers a batch on standard input with the order of its registry calls and the results, on standard output.
-//! It makes the real source and sink and the box `default`, calls `replay`, and ends with its status.
+//! It makes the real source and sink and the five built-in boxes, calls `replay`, and ends with its status.
 //! What it promises is the contract of `replay`; that the streams are the real ones is seen by reading.
 #![tactic(auto)]
 
-ghost use Rattle.std.specs.Prelude.{◌≤◌, length, IfOk};
+ghost use Rattle.std.specs.Prelude.{◌≤◌, ◌≡◌, length, map, IfOk};
+ghost use Rattle.ossl_provider.specs.Sheet.{Facts, Sheet};
 ghost use Rattle.ossl_provider.specs.Table.{table_facts, table_sheet};
-ghost use Rattle.ossl_calls.specs.Registry.{IsIdle};
+ghost use Rattle.ossl_rows.specs.Tables.{table_of};
+ghost use Rattle.ossl_calls.specs.Registry.{IsCatalogue};
 
-use ossl_base::{MemFiles, StdSink, StdSource, Text};
-use ossl_provider::{Boxed, Code, TableProvider, TableRow};
+use ossl_base::{MemFiles, Sink, Source, StdSink, StdSource};
+use ossl_provider::Boxed;
+use ossl_rows::{Builtin, builtin};
 use ossl_run::replay::replay;
 use std::alloc::{AllocError, Global};
 use std::env;
 use std::io::ErrorKind;
 use std::process::ExitCode;
 
+#[cfg(test)]
+mod tests;
+
 /// The status for want of memory.
 const NO_MEMORY: u8 = 9;
-
-fn text(alloc: Global, bytes: &[u8]) -> Result<Text, AllocError> {
-    Ok(Text::of(Vec::from_slice(alloc, bytes)?))
-}
-
-/// The provider `default`, with its one row.
-fn default_provider(alloc: Global) -> Result<TableProvider, AllocError>
-    ensures idle { IfOk result (λ table. IsIdle (table_sheet table)) }
-    ensures rows { IfOk result (λ table. length (table_facts table).rows ≤ 256) }
-{
-    let mut rows = Vec::new(alloc);
-    rows.push(TableRow {
-        names: text(alloc, b"SHA2-256")?,
-        definition: text(alloc, b"provider=default")?,
-        code: Code::Sha256,
-    })?;
-    TableProvider::new(alloc, text(alloc, b"default")?, rows, 0)
-}
 
 /// The words after the program's name. A word that is not text is no word of the program's, so none are given then.
 fn words(rt: &HostRuntime) -> Result<Vec<String>, AllocError> {
@@ -46,25 +34,30 @@ fn words(rt: &HostRuntime) -> Result<Vec<String>, AllocError> {
     }
 }
 
+/// Answers the batch of a source over the five built-in providers, and gives the status.
+fn answer<S: Source, K: Sink>(
+    alloc: Global,
+    words: &[String],
+    source: &mut S,
+    sink: &mut K,
+) -> Result<u8, AllocError> {
+    let default: Boxed = Box::new(alloc, builtin(alloc, Builtin::Default)?)?;
+    let legacy: Boxed = Box::new(alloc, builtin(alloc, Builtin::Legacy)?)?;
+    let fips: Boxed = Box::new(alloc, builtin(alloc, Builtin::Fips)?)?;
+    let null: Boxed = Box::new(alloc, builtin(alloc, Builtin::Null)?)?;
+    let base: Boxed = Box::new(alloc, builtin(alloc, Builtin::Base)?)?;
+    let catalogue = Vec::from_array(alloc, [default, legacy, fips, null, base])?;
+    let mut files = MemFiles::new(Vec::new(alloc), Vec::new(alloc));
+    let outcome = replay(alloc, words, source, &mut files, sink, catalogue);
+    Ok(outcome.status)
+}
+
 /// Runs the program, and gives its status.
 fn run(rt: &HostRuntime) -> Result<u8, AllocError> {
-    let alloc = rt.alloc();
     let words = words(rt)?;
-    let provider: Boxed = Box::new(alloc, default_provider(alloc)?)?;
-    let mut catalogue: Vec<Boxed> = Vec::new(alloc);
-    catalogue.push(provider).map_err(AllocError::from)?;
     let mut source = StdSource::new(rt.stdin());
-    let mut files = MemFiles::new(Vec::new(alloc), Vec::new(alloc));
     let mut sink = StdSink::new(rt.stdout());
-    let outcome = replay(
-        alloc,
-        words.as_slice(),
-        &mut source,
-        &mut files,
-        &mut sink,
-        catalogue,
-    );
-    Ok(outcome.status)
+    answer(rt.alloc(), words.as_slice(), &mut source, &mut sink)
 }
 
 fn main(rt: HostRuntime) -> ExitCode {
