@@ -1,8 +1,10 @@
 -- A text goes on from byte to byte, from block to block, and from piece to piece.
-use Rattle.std.proofs.Common.{◌≡◌, ℕ, zero, suc, ◌+◌, ◌-◌, ◌*◌, ◌/◌, ◌%◌, ◌<◌, ◌≤◌, List, [], ◌∷◌, ◌++◌, length, get_or, set, take, drop, bit_xor, refl, sym, ap, ◌∙◌, min, append_assoc, length-append, arith}
+use Rattle.std.proofs.Common.{◌≡◌, ℕ, zero, suc, ◌+◌, ◌-◌, ◌*◌, ◌/◌, ◌%◌, ◌<◌, ◌≤◌, List, [], ◌∷◌, ◌++◌, length, get_or, set, take, drop, bit_xor, refl, sym, ap, ◌∙◌, min, append_assoc, length-append, arith, inl, inr}
 use Rattle.std.proofs.lemmas.List.{drop_more, take_more_set, drop-set-lt, append-nil, take_all, take_at, drop_at, drop_all, take-append-drop, length-take, length-take-le, length-drop}
+use Rattle.std.proofs.lemmas.Bool.{cases_lt}
 use borrow.Rule.Slice.PartMut.{put_mid}
 use Rattle.ossl_chacha.specs.KeyStream.{block_at, key_byte, text_from, xored}
+use Rattle.ossl_chacha.proofs.Refill.{blocks_at, length-block_at}
 
 -- one byte further in a text that is xored in place
 pub xored_more : (text stream : List ℕ) (i : ℕ) → i < length text → i < length stream
@@ -41,6 +43,46 @@ text_from-append key iv place (x ∷ xs) ys =
     let further : place + 1 + length xs ≡ place + suc (length xs) = omega arith in
     ap (λ (t : List ℕ). bit_xor x (key_byte key iv place) ∷ t)
     (text_from-append key iv (place + 1) xs ys ∙ ap (λ (p : ℕ). text_from key iv (place + 1) xs ++ text_from key iv p ys) further)
+
+-- two parts xored with two parts
+xored-append : (a b c d : List ℕ) → length a ≡ length c → xored (a ++ b) (c ++ d) ≡ xored a c ++ xored b d
+unfolding xored
+xored-append [] b [] d h = refl
+xored-append [] b (y ∷ c) d h = absurd (omega (arith, h))
+xored-append (x ∷ a) b [] d h = absurd (omega (arith, h))
+xored-append (x ∷ a) b (y ∷ c) d h = ap (λ (t : List ℕ). bit_xor x y ∷ t) (xored-append a b c d (omega (arith, h)))
+
+-- bytes xored with at least as many as they are
+xored-front : (xs c d : List ℕ) → length xs ≤ length c → xored xs (c ++ d) ≡ xored xs c
+unfolding xored
+xored-front [] [] d h = refl
+xored-front [] (y ∷ c) d h = refl
+xored-front (x ∷ xs) [] d h = absurd (omega (arith, h))
+xored-front (x ∷ xs) (y ∷ c) d h = ap (λ (t : List ℕ). bit_xor x y ∷ t) (xored-front xs c d (omega (arith, h)))
+
+-- bytes xored with whole blocks that reach as far are the text from there on
+pub xored-blocks : (key iv text : List ℕ) (n m : ℕ) → length text ≤ 64 * m → xored text (blocks_at key iv n m) ≡ text_from key iv (64 * n) text
+unfolding xored text_from blocks_at
+xored-blocks key iv [] n zero size = refl
+xored-blocks key iv (x ∷ xs) n zero size = absurd (omega (arith, size))
+xored-blocks key iv text n (suc m) size =
+    elim (cases_lt 64 (length text)) [
+      | inl more ↦
+          let first = take 64 text in
+          let rest = drop 64 text in
+          let front : length first ≡ 64 = length-take-le 64 text (omega (arith, more)) in
+          let next : 64 * (n + 1) ≡ 64 * n + length first = omega (arith, front) in
+          ap (λ (t : List ℕ). xored t (block_at key iv n ++ blocks_at key iv (n + 1) m)) (sym (take-append-drop 64 text))
+          ∙ xored-append first rest (block_at key iv n) (blocks_at key iv (n + 1) m) (front ∙ sym (length-block_at key iv n))
+          ∙ (λ i. xored-block key iv first n 0 (64 * n) (length-block_at key iv n) (omega arith) (omega (arith, front)) i
+          ++ xored-blocks key iv rest (n + 1) m (omega (arith, size, length-drop 64 text)) i)
+          ∙ ap (λ (p : ℕ). text_from key iv (64 * n) first ++ text_from key iv p rest) next
+          ∙ sym (text_from-append key iv (64 * n) first rest)
+          ∙ ap (text_from key iv (64 * n)) (take-append-drop 64 text)
+      | inr less ↦
+          xored-front text (block_at key iv n) (blocks_at key iv (n + 1) m) (omega (arith, less, length-block_at key iv n))
+          ∙ xored-block key iv text n 0 (64 * n) (length-block_at key iv n) (omega arith) (omega (arith, less))
+    ]
 
 -- no bytes, nothing xored
 pub xored-nil : (ys : List ℕ) → xored [] ys ≡ []

@@ -1,4 +1,4 @@
-ghost use Rattle.std.specs.Prelude.{◌≡◌, ℕ, ◌+◌, ◌<◌, ◌≤◌, List, [], ◌++◌, OnOk, OnErr, length, take, drop};
+ghost use Rattle.std.specs.Prelude.{◌≡◌, ℕ, ◌+◌, ◌%◌, ◌<◌, ◌≤◌, List, [], ◌++◌, OnOk, OnErr, length, max, take, drop};
 ghost use Rattle.ossl_chacha.specs.KeyStream.{blocks_of, stream_len, stream_of, text_from, text_of, xored};
 
 use crate::generator::generator_of;
@@ -7,8 +7,10 @@ use rand_core::utils::{fill_bytes_via_u32, read_u32};
 use std::alloc::AllocError;
 use std::marker::Model;
 
-// The bytes of a block.
+// The bytes of a block, and of the four blocks that the generator makes at once.
 const BLOCK: usize = 64;
+
+const RUN: usize = 256;
 
 /// A message that needs more than the `blocks` blocks of 64 bytes that its key stream has.
 #[derive(Clone, Copy, Debug, PartialEq, Eq)]
@@ -24,7 +26,9 @@ pub struct ChaCha {
     generator: ChaCha20Rng,
     // The block that is used in part, where one is.
     held: [u8; 64],
-    used: u64,
+    // The bytes used. As wide as this, it lays the generator's words at a multiple of 16 bytes, where vectors are stored
+    // at once.
+    used: u128,
     is_over: bool,
 }
 
@@ -47,6 +51,16 @@ fn xor(text: &mut [u8], stream: &[u8])
     for (i, byte) in text.iter_mut().enumerate() {
         *byte ^= front[i];
     }
+}
+
+// How many bytes are drawn at once for a text of so many: four blocks, or one where the text has less than these.
+fn drawn_len(text: usize) -> usize
+    ensures whole { result % 64 ≡ 0 }
+    ensures some { 64 ≤ result }
+    ensures within { result ≤ 256 }
+    ensures fits { result ≤ max 64 text }
+{
+    if text >= RUN { RUN } else { BLOCK }
 }
 
 impl ChaCha {
@@ -72,7 +86,7 @@ impl ChaCha {
     fn left(&self) -> u64
         ensures { self.now.used + result ≡ stream_len self.now.iv }
     {
-        BLOCK as u64 * self.blocks() - self.used
+        BLOCK as u64 * self.blocks() - self.used as u64
     }
 
     // How many blocks the key stream has.
@@ -83,22 +97,58 @@ impl ChaCha {
     }
 
     // Xors what is left of the current block into the text's first bytes, and says how many these are.
-    fn crypt_front(&mut self, text: &mut [u8]) -> usize
+    fn crypt_held(&mut self, text: &mut [u8]) -> usize
+        requires in_block { 0 < self.old.used % 64 }
         requires some { 0 < length text.old }
-        requires room { self.old.used + length text.old ≤ stream_len self.old.iv }
+        requires fits { self.old.used + length text.old ≤ stream_len self.old.iv }
         ensures some { 0 < result }
         ensures count { result ≤ length text.old }
         ensures text { text.new ≡ text_from self.old.key self.old.iv self.old.used (take result text.old) ++ drop result text.old }
         ensures used { self.new ≡ record self.old { used = self.old.used + result } }
     {
         let at = (self.used % 64) as usize;
-        if at == 0 {
-            fill_bytes_via_u32(&mut self.generator, &mut self.held);
-        }
         let count = text.len().min(BLOCK - at);
         xor(&mut text[..count], &self.held[at..]);
-        self.used += count as u64;
+        self.used += count as u128;
         count
+    }
+
+    // Xors the next blocks into the text's first bytes, and says how many these are. Four blocks are drawn at once,
+    // into the room apart from the text, so that a processor need not wait for single words that it has just stored. The
+    // last is held.
+    fn crypt_drawn(&mut self, text: &mut [u8], room: &mut [u8; 256]) -> usize
+        requires at_block { self.old.used % 64 ≡ 0 }
+        requires some { 0 < length text.old }
+        requires fits { self.old.used + length text.old ≤ stream_len self.old.iv }
+        ensures some { 0 < result }
+        ensures count { result ≤ length text.old }
+        ensures text { text.new ≡ text_from self.old.key self.old.iv self.old.used (take result text.old) ++ drop result text.old }
+        ensures used { self.new ≡ record self.old { used = self.old.used + result } }
+    {
+        let size = drawn_len(text.len());
+        let drawn = &mut room[..size];
+        fill_bytes_via_u32(&mut self.generator, drawn);
+        let count = text.len().min(size);
+        xor(&mut text[..count], drawn);
+        self.held.copy_from_slice(&drawn[size - BLOCK..]);
+        self.used += count as u128;
+        count
+    }
+
+    // Xors some of the key stream's next bytes into the text's first bytes, and says how many these are.
+    fn crypt_front(&mut self, text: &mut [u8], room: &mut [u8; 256]) -> usize
+        requires some { 0 < length text.old }
+        requires fits { self.old.used + length text.old ≤ stream_len self.old.iv }
+        ensures some { 0 < result }
+        ensures count { result ≤ length text.old }
+        ensures text { text.new ≡ text_from self.old.key self.old.iv self.old.used (take result text.old) ++ drop result text.old }
+        ensures used { self.new ≡ record self.old { used = self.old.used + result } }
+    {
+        if self.used % 64 == 0 {
+            self.crypt_drawn(text, room)
+        } else {
+            self.crypt_held(text)
+        }
     }
 
     // Xors the key stream's next bytes into the text.
@@ -107,9 +157,10 @@ impl ChaCha {
         ensures text { text.new ≡ text_from self.old.key self.old.iv self.old.used text.old }
         ensures used { self.new ≡ record self.old { used = self.old.used + length text.old } }
     {
+        let mut room = [0; RUN];
         let mut done = 0;
         while done < text.len() {
-            done += self.crypt_front(&mut text[done..]);
+            done += self.crypt_front(&mut text[done..], &mut room);
         }
     }
 

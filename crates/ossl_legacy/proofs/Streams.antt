@@ -3,7 +3,7 @@ use Rattle.std.proofs.Common.{◌≡◌, ℕ, ◌+◌, ◌%◌, ◌<◌, List, [
 use Rattle.std.specs.List.{range_with_len, swap}
 use Rattle.std.proofs.lemmas.List.{drop_more, take_more_set, drop-set-lt, append-nil, map-id}
 use Rattle.std.proofs.lemmas.List.FromFn.{map-range_with_len_more}
-use Rattle.ossl_legacy.specs.Rc4State.{Rc4State, advanced, key_byte, scheduled, scheduled_at, text_of}
+use Rattle.ossl_legacy.specs.Rc4State.{Rc4State, advanced, first_of, key_byte, scheduled, scheduled_at, text_of}
 
 -- one number more in a list of numbers that count up
 pub counted_more : (n : ℕ) → range_with_len 0 (n + 1) ≡ range_with_len 0 n ++ n ∷ []
@@ -20,6 +20,17 @@ unfolding scheduled
 scheduled_more key s t i j before after =
     let carry : ((j + slice_index s i) % 256 + slice_index key (i % length key)) % 256 ≡ (j + slice_index s i + slice_index key (i % length key)) % 256 = omega arith in
     rw (after, carry, add-one) (ap (scheduled_at key i) before)
+
+-- a state by its parts
+abbrev pub state_of : List ℕ → ℕ → ℕ → Rc4State
+state_of table i j = record { table = table; i = i; j = j }
+
+-- the state for the next byte, with S[i] of it at hand
+pub advanced_by : (table new : List ℕ) (i j first : ℕ) → first ≡ first_of (state_of table i j)
+    → new ≡ swap table ((i + 1) % 256) ((j + first) % 256) → state_of new ((i + 1) % 256) ((j + first) % 256) ≡ advanced (state_of table i j)
+advanced_by table new i j first is exchanged =
+    ap (λ (s : List ℕ). state_of s ((i + 1) % 256) ((j + first) % 256)) exchanged
+    ∙ ap (λ (f : ℕ). state_of (swap table ((i + 1) % 256) ((j + f) % 256)) ((i + 1) % 256) ((j + f) % 256)) is
 
 -- one byte further in a text that is xored in place
 pub text_more : (state next : Rc4State) (text rest : List ℕ) (i key : ℕ) → i < length text → next ≡ advanced state → key ≡ key_byte next

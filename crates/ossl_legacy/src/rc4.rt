@@ -1,6 +1,6 @@
-ghost use Rattle.std.specs.Prelude.{◌≡◌, ℕ, ◌+◌, ◌%◌, ◌↔◌, List, ◌++◌, IsOk, IfOk, IfErr, OnOk, OnErr, length, slice_index};
+ghost use Rattle.std.specs.Prelude.{◌≡◌, ℕ, ◌+◌, ◌%◌, ◌↔◌, List, ◌++◌, IsOk, IfOk, IfErr, OnOk, OnErr, length, slice_index, swap};
 ghost use Rattle.std.specs.List.{range_with_len};
-ghost use Rattle.ossl_legacy.specs.Rc4State.{IsKeyLength, advanced, first_of, key_byte, key_schedule, scheduled, text_of, rc4};
+ghost use Rattle.ossl_legacy.specs.Rc4State.{IsKeyLength, first_of, key_byte, key_schedule, scheduled, text_of, rc4};
 
 use std::alloc::AllocError;
 use std::marker::Model;
@@ -55,6 +55,24 @@ fn scheduled_table(key: &[u8]) -> [u8; 256]
     table
 }
 
+// Exchanges S[i], which is `first`, and S[j], and gives the key byte S[S[i] + S[j]], and S[i] of the byte after it. That
+// one is read ahead, so that a processor need not wait for the exchange.
+#[inline(always)]
+fn exchange(table: &mut [u8; 256], i: u8, j: u8, first: u8) -> (u8, u8)
+    requires { first ≡ slice_index table.old i }
+    ensures exchanged { table.new ≡ swap table.old i j }
+    ensures byte { result.0 ≡ key_byte (record { table = table.new; i = i; j = j }) }
+    ensures ahead { result.1 ≡ first_of (record { table = table.new; i = i; j = j }) }
+{
+    let second = table[j as usize];
+    let after = i.wrapping_add(1);
+    let ahead = table[after as usize];
+    table[i as usize] = second;
+    table[j as usize] = first;
+    let key_byte = table[first.wrapping_add(second) as usize];
+    (key_byte, if j == after { first } else { ahead })
+}
+
 impl Rc4 {
     /// The stream of a key of 1 to 256 bytes. It takes no memory.
     pub fn new(key: &[u8]) -> Result<Self, KeyLength>
@@ -75,39 +93,23 @@ impl Rc4 {
         })
     }
 
-    // The next byte of the key stream, and S[i] of the byte after it. `first` is S[i] of this one. It is read ahead, so
-    // that a processor need not wait for the exchange of the byte before.
-    #[inline(always)]
-    fn next_key_byte(&mut self, first: u8) -> (u8, u8)
-        requires { first ≡ first_of self.old }
-        ensures next { self.new ≡ advanced self.old }
-        ensures byte { result.0 ≡ key_byte self.new }
-        ensures ahead { result.1 ≡ first_of self.new }
-    {
-        let i = self.i.wrapping_add(1);
-        let j = self.j.wrapping_add(first);
-        let second = self.table[j as usize];
-        let after = i.wrapping_add(1);
-        let ahead = self.table[after as usize];
-        self.table[i as usize] = second;
-        self.table[j as usize] = first;
-        self.i = i;
-        self.j = j;
-        let key_byte = self.table[first.wrapping_add(second) as usize];
-        (key_byte, if j == after { first } else { ahead })
-    }
-
-    // Xors the next bytes of the key stream into the text.
+    // Xors the next bytes of the key stream into the text. The indices are kept apart from the table meanwhile, so that
+    // a processor need not read back what it has just stored.
     fn crypt(&mut self, text: &mut [u8])
         ensures text { text.new ≡ text_of self.old text.old }
         ensures goes_on { (rest : List ℕ) → text_of self.old (text.old ++ rest) ≡ text_of self.old text.old ++ text_of self.new rest }
     {
-        let mut first = self.table[self.i.wrapping_add(1) as usize];
+        let (mut i, mut j) = (self.i, self.j);
+        let mut first = self.table[i.wrapping_add(1) as usize];
         for byte in text.iter_mut() {
-            let (key_byte, ahead) = self.next_key_byte(first);
+            i = i.wrapping_add(1);
+            j = j.wrapping_add(first);
+            let (key_byte, ahead) = exchange(&mut self.table, i, j, first);
             *byte ^= key_byte;
             first = ahead;
         }
+        self.i = i;
+        self.j = j;
     }
 
     /// Appends the text of the bytes: each is xored with the next byte of the key stream. Where memory is refused, the

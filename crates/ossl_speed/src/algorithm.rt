@@ -4,10 +4,17 @@ use ossl_digests::Hash;
 #[derive(Clone, Copy)]
 pub enum Algorithm {
     Digest(Hash),
+    /// HMAC under a key of 20 bytes.
+    Hmac(Hash),
+    /// 42 bytes by HKDF, extracted and expanded, the message being the key material.
+    Hkdf(Hash),
+    ChaCha20,
+    /// RC4 under a key of 16 bytes.
+    Rc4,
 }
 
-// The names of the built-in tables, each with its algorithm.
-const NAMES: [(&str, Algorithm); 22] = [
+// The names, each with its algorithm: those of the built-in tables, and for HMAC and HKDF the hash behind a dash.
+const NAMES: [(&str, Algorithm); 32] = [
     ("SHA2-256", Algorithm::Digest(Hash::Sha256)),
     ("SHA-256", Algorithm::Digest(Hash::Sha256)),
     ("SHA256", Algorithm::Digest(Hash::Sha256)),
@@ -30,6 +37,16 @@ const NAMES: [(&str, Algorithm); 22] = [
     ("SHA-1", Algorithm::Digest(Hash::Sha1)),
     ("MD5", Algorithm::Digest(Hash::Md5)),
     ("MD4", Algorithm::Digest(Hash::Md4)),
+    ("HMAC-SHA1", Algorithm::Hmac(Hash::Sha1)),
+    ("HMAC-SHA256", Algorithm::Hmac(Hash::Sha256)),
+    ("HMAC-SHA512", Algorithm::Hmac(Hash::Sha512)),
+    ("HMAC-MD5", Algorithm::Hmac(Hash::Md5)),
+    ("HKDF-SHA1", Algorithm::Hkdf(Hash::Sha1)),
+    ("HKDF-SHA256", Algorithm::Hkdf(Hash::Sha256)),
+    ("HKDF-SHA512", Algorithm::Hkdf(Hash::Sha512)),
+    ("HKDF-MD5", Algorithm::Hkdf(Hash::Md5)),
+    ("ChaCha20", Algorithm::ChaCha20),
+    ("RC4", Algorithm::Rc4),
 ];
 
 /// The algorithm of a name, whose letters may be of either case.

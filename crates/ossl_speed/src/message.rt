@@ -1,11 +1,7 @@
-ghost use Rattle.std.specs.Prelude.{◌≡◌};
-ghost use Rattle.ossl_digests.specs.Digest.{digest};
-ghost use Rattle.ossl_speed.specs.Message.{message, value_of};
+ghost use Rattle.std.specs.Prelude.{◌≡◌, ◌≤◌, length};
+ghost use Rattle.ossl_speed.specs.Message.{message};
 
-use crate::algorithm::Algorithm;
-use ossl_digests::{Digester, Hash, HashValue};
-
-/// The bytes of a message that are fed at once. Pieces are alike, since 256 divides their length.
+/// The bytes of a message that are taken in at once. Pieces are alike, since 256 divides their length.
 pub const PIECE: usize = 16384;
 
 /// A piece of a message.
@@ -19,24 +15,12 @@ pub fn piece() -> [u8; PIECE]
     bytes
 }
 
-/// What the algorithm gives of the message of so many bytes.
-pub fn value_of(algorithm: Algorithm, piece: &[u8], length: usize) -> HashValue
-    requires { piece.now ≡ message PIECE }
-    ensures { result ≡ value_of algorithm (message length) }
+/// The message of so many bytes, which begins every longer one.
+pub fn front(piece: &[u8], size: usize) -> &[u8]
+    requires piece { piece.now ≡ message PIECE }
+    requires within { size ≤ PIECE }
+    ensures value { result.now ≡ message size }
+    ensures size { length result.now ≡ size }
 {
-    match algorithm {
-        Algorithm::Digest(hash) => digest_of(hash, piece, length),
-    }
-}
-
-fn digest_of(hash: Hash, piece: &[u8], length: usize) -> HashValue
-    requires { piece.now ≡ message PIECE }
-    ensures { result ≡ digest hash (message length) }
-{
-    let mut digester = Digester::new(hash);
-    for _i in 0..length / PIECE {
-        digester.feed(piece);
-    }
-    digester.feed(&piece[..length % PIECE]);
-    digester.finish()
+    &piece[..size]
 }

@@ -1,9 +1,12 @@
-ghost use Rattle.std.specs.Prelude.{◌≡◌};
-ghost use Rattle.ossl_speed.specs.Message.{message, value_of};
+ghost use Rattle.std.specs.Prelude.{◌≡◌, IfOk};
+ghost use Rattle.ossl_speed.specs.Bytes.{bytes_of};
+ghost use Rattle.ossl_speed.specs.Message.{message};
+ghost use Rattle.ossl_speed.specs.Values.{value_of};
 
 use crate::algorithm::{self, Algorithm};
 use crate::message;
-use ossl_digests::HashValue;
+use crate::value::{self, Value};
+use std::alloc::{AllocError, Global};
 
 /// The longest message in bytes.
 const LONGEST: usize = 1_073_741_824;
@@ -18,15 +21,14 @@ pub struct Work {
 
 impl Work {
     /// The last value. Each is worked out from anew.
-    pub fn run(&self) -> HashValue
-        ensures { result ≡ value_of self.now.algorithm (message self.now.length) }
+    pub fn run(&self, alloc: Global) -> Result<Value, AllocError>
+        ensures { IfOk result (λ value. bytes_of value ≡ value_of self.now.algorithm (message self.now.length)) }
     {
         let piece = message::piece();
-        let mut value = message::value_of(self.algorithm, &piece, self.length);
         for _i in 1..self.count {
-            value = message::value_of(self.algorithm, &piece, self.length);
+            value::value_of(alloc, self.algorithm, &piece, self.length)?;
         }
-        value
+        value::value_of(alloc, self.algorithm, &piece, self.length)
     }
 }
 

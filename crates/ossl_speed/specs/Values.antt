@@ -1,0 +1,23 @@
+-- What each algorithm gives of a message. Keys and the like are messages too: bytes that count up from 0.
+use Rattle.std.specs.Prelude.{ℕ, ◌-◌, List, length, drop}
+use Rattle.ossl_digests.specs.Digest.{digest}
+use Rattle.ossl_hmac.specs.Hmac as M
+use Rattle.ossl_hkdf.specs.Hkdf as K
+use Rattle.ossl_hkdf.specs.declared.mode.HkdfMode.TheVariants.{Both}
+use Rattle.ossl_chacha.specs.KeyStream as C
+use Rattle.ossl_legacy.specs.Rc4State as R
+use Rattle.ossl_speed.specs.declared.algorithm.Algorithm.{Algorithm}
+use Rattle.ossl_speed.specs.declared.algorithm.Algorithm.TheVariants.{Digest, Hmac, Hkdf, ChaCha20, Rc4}
+use Rattle.ossl_speed.specs.Message.{message}
+
+-- the last n bytes of a list, or all of a shorter one
+abbrev pub last : ℕ → List ℕ → List ℕ
+last n bytes = drop (length bytes - n) bytes
+
+-- what an algorithm gives of a message; of a text the last 64 bytes
+abbrev pub value_of : Algorithm → List ℕ → List ℕ
+value_of (Digest hash) m = digest hash m
+value_of (Hmac hash) m = M.hmac hash (message 20) m
+value_of (Hkdf hash) m = K.hkdf Both hash m (message 13) (message 10) 42
+value_of ChaCha20 m = last 64 (C.text_of (C.stream_of (message 32) (message 16)) m)
+value_of Rc4 m = last 64 (R.rc4 (message 16) m)
