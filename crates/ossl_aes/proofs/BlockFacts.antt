@@ -1,20 +1,22 @@
 -- A block as four words, and the rounds by words.
-use Rattle.std.proofs.Common.{◌≡◌, ℕ, zero, suc, ◌+◌, ◌-◌, ◌*◌, ◌<◌, ◌≤◌, List, [], ◌∷◌, ◌++◌, length, get_or, slice_index, map, bit_xor, refl, sym, ap, ◌∙◌, arith}
+use Rattle.std.proofs.Common.{◌≡◌, ℕ, suc, ◌+◌, ◌-◌, ◌*◌, ◌/◌, ◌%◌, ◌^◌, ◌<◌, ◌≤◌, List, [], ◌∷◌, ◌++◌, length, slice_index, map, bit_xor, refl, sym, ap, ◌∙◌, arith}
 use Rattle.std.specs.Int.{w32, to_be_bytes, from_be_bytes}
 use Rattle.std.proofs.lemmas.Nat.{be_bytes_4}
 use Rattle.ossl_aes.specs.Field.{unsub}
 use Rattle.ossl_aes.specs.Cipher.{add, word_at, rounds, inv_rounds, round_key, cipher, inv_cipher, column, inv_mix_columns, inv_shift_rows}
 use Rattle.ossl_aes.specs.State.{state_of, round, last_round, inv_round, last_inv_round, AreInvMixed}
 use Rattle.ossl_aes.proofs.FieldFacts.{row-add}
-use Rattle.ossl_aes.proofs.Words.{bytes-xor}
+use Rattle.ossl_aes.proofs.Words.{bytes-xor, four_fit}
 use Rattle.ossl_aes.proofs.Lists.{rest_of}
 
-four_fit : (x y z w : ℕ) → x < 256 → y < 256 → z < 256 → w < 256 → (i : ℕ) → get_or (x ∷ y ∷ z ∷ w ∷ []) i 0 < 256
-four_fit x y z w hx hy hz hw zero = hx
-four_fit x y z w hx hy hz hw (suc zero) = hy
-four_fit x y z w hx hy hz hw (suc (suc zero)) = hz
-four_fit x y z w hx hy hz hw (suc (suc (suc zero))) = hw
-four_fit x y z w hx hy hz hw (suc (suc (suc (suc i)))) = omega arith
+pub upper : (x v w : ℕ) → x ≡ v * 2 ^ 32 + w → w < 2 ^ 32 → x / 2 ^ 32 ≡ v
+upper x v w e h = omega arith
+
+pub lower : (x v w : ℕ) → x ≡ v * 2 ^ 32 + w → w < 2 ^ 32 → x % 2 ^ 32 ≡ w
+lower x v w e h = omega arith
+
+pub word_fits : (x y z w : ℕ) → x < 256 → y < 256 → z < 256 → w < 256 → from_be_bytes w32 (x ∷ y ∷ z ∷ w ∷ []) < 2 ^ 32
+word_fits x y z w hx hy hz hw = omega arith
 
 pub loaded : (b : List ℕ) (w0 w1 w2 w3 : ℕ) → length b ≡ 16 → slice_index b 0 < 256 → slice_index b 1 < 256 → slice_index b 2 < 256 → slice_index b 3 < 256 → slice_index b 4 < 256 → slice_index b 5 < 256 → slice_index b 6 < 256 → slice_index b 7 < 256 → slice_index b 8 < 256 → slice_index b 9 < 256 → slice_index b 10 < 256 → slice_index b 11 < 256 → slice_index b 12 < 256 → slice_index b 13 < 256 → slice_index b 14 < 256 → slice_index b 15 < 256
     → w0 ≡ word_at b 0 → w1 ≡ word_at b 4 → w2 ≡ word_at b 8 → w3 ≡ word_at b 12

@@ -30,16 +30,21 @@ enc_round_is s k a b c d r0 r1 r2 r3 ea eb ec ed h0 h1 h2 h3 =
     (λ i. e0 i ++ e1 i ++ e2 i ++ e3 i)
     ∙ (λ i. add (column 2 3 1 1 (sub (slice_index (ea i) 0)) (sub (slice_index (eb i) 1)) (sub (slice_index (ec i) 2)) (sub (slice_index (ed i) 3))) (bytes_at k 0) ++ add (column 2 3 1 1 (sub (slice_index (eb i) 0)) (sub (slice_index (ec i) 1)) (sub (slice_index (ed i) 2)) (sub (slice_index (ea i) 3))) (bytes_at k 1) ++ add (column 2 3 1 1 (sub (slice_index (ec i) 0)) (sub (slice_index (ed i) 1)) (sub (slice_index (ea i) 2)) (sub (slice_index (eb i) 3))) (bytes_at k 2) ++ add (column 2 3 1 1 (sub (slice_index (ed i) 0)) (sub (slice_index (ea i) 1)) (sub (slice_index (eb i) 2)) (sub (slice_index (ec i) 3))) (bytes_at k 3))
 
-pub enc_last_is : (s k a b c d x0 x1 x2 x3 : List ℕ)
+pub enc_last_is : (s k a b c d : List ℕ) (r0 r1 r2 r3 : ℕ)
     → a ≡ bytes_at s 0 → b ≡ bytes_at s 1 → c ≡ bytes_at s 2 → d ≡ bytes_at s 3
-    → x0 ≡ add (sub (slice_index a 0) ∷ sub (slice_index b 1) ∷ sub (slice_index c 2) ∷ sub (slice_index d 3) ∷ []) (bytes_at k 0)
-    → x1 ≡ add (sub (slice_index b 0) ∷ sub (slice_index c 1) ∷ sub (slice_index d 2) ∷ sub (slice_index a 3) ∷ []) (bytes_at k 1)
-    → x2 ≡ add (sub (slice_index c 0) ∷ sub (slice_index d 1) ∷ sub (slice_index a 2) ∷ sub (slice_index b 3) ∷ []) (bytes_at k 2)
-    → x3 ≡ add (sub (slice_index d 0) ∷ sub (slice_index a 1) ∷ sub (slice_index b 2) ∷ sub (slice_index c 3) ∷ []) (bytes_at k 3)
-    → slice_index x0 0 ∷ slice_index x0 1 ∷ slice_index x0 2 ∷ slice_index x0 3 ∷ slice_index x1 0 ∷ slice_index x1 1 ∷ slice_index x1 2 ∷ slice_index x1 3 ∷ slice_index x2 0 ∷ slice_index x2 1 ∷ slice_index x2 2 ∷ slice_index x2 3 ∷ slice_index x3 0 ∷ slice_index x3 1 ∷ slice_index x3 2 ∷ slice_index x3 3 ∷ [] ≡ last_round (state_of s) (state_of k)
+    → to_be_bytes w32 r0 ≡ sub (slice_index a 0) ∷ sub (slice_index b 1) ∷ sub (slice_index c 2) ∷ sub (slice_index d 3) ∷ []
+    → to_be_bytes w32 r1 ≡ sub (slice_index b 0) ∷ sub (slice_index c 1) ∷ sub (slice_index d 2) ∷ sub (slice_index a 3) ∷ []
+    → to_be_bytes w32 r2 ≡ sub (slice_index c 0) ∷ sub (slice_index d 1) ∷ sub (slice_index a 2) ∷ sub (slice_index b 3) ∷ []
+    → to_be_bytes w32 r3 ≡ sub (slice_index d 0) ∷ sub (slice_index a 1) ∷ sub (slice_index b 2) ∷ sub (slice_index c 3) ∷ []
+    → state_of (bit_xor r0 (slice_index k 0) ∷ bit_xor r1 (slice_index k 1) ∷ bit_xor r2 (slice_index k 2) ∷ bit_xor r3 (slice_index k 3) ∷ [])
+    ≡ last_round (state_of s) (state_of k)
 unfolding add last_round
-enc_last_is s k a b c d x0 x1 x2 x3 ea eb ec ed h0 h1 h2 h3 =
-    (λ i. slice_index (h0 i) 0 ∷ slice_index (h0 i) 1 ∷ slice_index (h0 i) 2 ∷ slice_index (h0 i) 3 ∷ slice_index (h1 i) 0 ∷ slice_index (h1 i) 1 ∷ slice_index (h1 i) 2 ∷ slice_index (h1 i) 3 ∷ slice_index (h2 i) 0 ∷ slice_index (h2 i) 1 ∷ slice_index (h2 i) 2 ∷ slice_index (h2 i) 3 ∷ slice_index (h3 i) 0 ∷ slice_index (h3 i) 1 ∷ slice_index (h3 i) 2 ∷ slice_index (h3 i) 3 ∷ [])
+enc_last_is s k a b c d r0 r1 r2 r3 ea eb ec ed h0 h1 h2 h3 =
+    let e0 = keyed r0 (slice_index k 0) _ h0 in
+    let e1 = keyed r1 (slice_index k 1) _ h1 in
+    let e2 = keyed r2 (slice_index k 2) _ h2 in
+    let e3 = keyed r3 (slice_index k 3) _ h3 in
+    (λ i. e0 i ++ e1 i ++ e2 i ++ e3 i)
     ∙ (λ i. add (sub (slice_index (ea i) 0) ∷ sub (slice_index (eb i) 1) ∷ sub (slice_index (ec i) 2) ∷ sub (slice_index (ed i) 3) ∷ []) (bytes_at k 0) ++ add (sub (slice_index (eb i) 0) ∷ sub (slice_index (ec i) 1) ∷ sub (slice_index (ed i) 2) ∷ sub (slice_index (ea i) 3) ∷ []) (bytes_at k 1) ++ add (sub (slice_index (ec i) 0) ∷ sub (slice_index (ed i) 1) ∷ sub (slice_index (ea i) 2) ∷ sub (slice_index (eb i) 3) ∷ []) (bytes_at k 2) ++ add (sub (slice_index (ed i) 0) ∷ sub (slice_index (ea i) 1) ∷ sub (slice_index (eb i) 2) ∷ sub (slice_index (ec i) 3) ∷ []) (bytes_at k 3))
 
 pub dec_round_is : (s k a b c d : List ℕ) (r0 r1 r2 r3 : ℕ)
@@ -59,14 +64,19 @@ dec_round_is s k a b c d r0 r1 r2 r3 ea eb ec ed h0 h1 h2 h3 =
     (λ i. e0 i ++ e1 i ++ e2 i ++ e3 i)
     ∙ (λ i. add (column 14 11 13 9 (unsub (slice_index (ea i) 0)) (unsub (slice_index (ed i) 1)) (unsub (slice_index (ec i) 2)) (unsub (slice_index (eb i) 3))) (bytes_at k 0) ++ add (column 14 11 13 9 (unsub (slice_index (eb i) 0)) (unsub (slice_index (ea i) 1)) (unsub (slice_index (ed i) 2)) (unsub (slice_index (ec i) 3))) (bytes_at k 1) ++ add (column 14 11 13 9 (unsub (slice_index (ec i) 0)) (unsub (slice_index (eb i) 1)) (unsub (slice_index (ea i) 2)) (unsub (slice_index (ed i) 3))) (bytes_at k 2) ++ add (column 14 11 13 9 (unsub (slice_index (ed i) 0)) (unsub (slice_index (ec i) 1)) (unsub (slice_index (eb i) 2)) (unsub (slice_index (ea i) 3))) (bytes_at k 3))
 
-pub dec_last_is : (s k a b c d x0 x1 x2 x3 : List ℕ)
+pub dec_last_is : (s k a b c d : List ℕ) (r0 r1 r2 r3 : ℕ)
     → a ≡ bytes_at s 0 → b ≡ bytes_at s 1 → c ≡ bytes_at s 2 → d ≡ bytes_at s 3
-    → x0 ≡ add (unsub (slice_index a 0) ∷ unsub (slice_index d 1) ∷ unsub (slice_index c 2) ∷ unsub (slice_index b 3) ∷ []) (bytes_at k 0)
-    → x1 ≡ add (unsub (slice_index b 0) ∷ unsub (slice_index a 1) ∷ unsub (slice_index d 2) ∷ unsub (slice_index c 3) ∷ []) (bytes_at k 1)
-    → x2 ≡ add (unsub (slice_index c 0) ∷ unsub (slice_index b 1) ∷ unsub (slice_index a 2) ∷ unsub (slice_index d 3) ∷ []) (bytes_at k 2)
-    → x3 ≡ add (unsub (slice_index d 0) ∷ unsub (slice_index c 1) ∷ unsub (slice_index b 2) ∷ unsub (slice_index a 3) ∷ []) (bytes_at k 3)
-    → slice_index x0 0 ∷ slice_index x0 1 ∷ slice_index x0 2 ∷ slice_index x0 3 ∷ slice_index x1 0 ∷ slice_index x1 1 ∷ slice_index x1 2 ∷ slice_index x1 3 ∷ slice_index x2 0 ∷ slice_index x2 1 ∷ slice_index x2 2 ∷ slice_index x2 3 ∷ slice_index x3 0 ∷ slice_index x3 1 ∷ slice_index x3 2 ∷ slice_index x3 3 ∷ [] ≡ last_inv_round (state_of s) (state_of k)
+    → to_be_bytes w32 r0 ≡ unsub (slice_index a 0) ∷ unsub (slice_index d 1) ∷ unsub (slice_index c 2) ∷ unsub (slice_index b 3) ∷ []
+    → to_be_bytes w32 r1 ≡ unsub (slice_index b 0) ∷ unsub (slice_index a 1) ∷ unsub (slice_index d 2) ∷ unsub (slice_index c 3) ∷ []
+    → to_be_bytes w32 r2 ≡ unsub (slice_index c 0) ∷ unsub (slice_index b 1) ∷ unsub (slice_index a 2) ∷ unsub (slice_index d 3) ∷ []
+    → to_be_bytes w32 r3 ≡ unsub (slice_index d 0) ∷ unsub (slice_index c 1) ∷ unsub (slice_index b 2) ∷ unsub (slice_index a 3) ∷ []
+    → state_of (bit_xor r0 (slice_index k 0) ∷ bit_xor r1 (slice_index k 1) ∷ bit_xor r2 (slice_index k 2) ∷ bit_xor r3 (slice_index k 3) ∷ [])
+    ≡ last_inv_round (state_of s) (state_of k)
 unfolding add last_inv_round
-dec_last_is s k a b c d x0 x1 x2 x3 ea eb ec ed h0 h1 h2 h3 =
-    (λ i. slice_index (h0 i) 0 ∷ slice_index (h0 i) 1 ∷ slice_index (h0 i) 2 ∷ slice_index (h0 i) 3 ∷ slice_index (h1 i) 0 ∷ slice_index (h1 i) 1 ∷ slice_index (h1 i) 2 ∷ slice_index (h1 i) 3 ∷ slice_index (h2 i) 0 ∷ slice_index (h2 i) 1 ∷ slice_index (h2 i) 2 ∷ slice_index (h2 i) 3 ∷ slice_index (h3 i) 0 ∷ slice_index (h3 i) 1 ∷ slice_index (h3 i) 2 ∷ slice_index (h3 i) 3 ∷ [])
+dec_last_is s k a b c d r0 r1 r2 r3 ea eb ec ed h0 h1 h2 h3 =
+    let e0 = keyed r0 (slice_index k 0) _ h0 in
+    let e1 = keyed r1 (slice_index k 1) _ h1 in
+    let e2 = keyed r2 (slice_index k 2) _ h2 in
+    let e3 = keyed r3 (slice_index k 3) _ h3 in
+    (λ i. e0 i ++ e1 i ++ e2 i ++ e3 i)
     ∙ (λ i. add (unsub (slice_index (ea i) 0) ∷ unsub (slice_index (ed i) 1) ∷ unsub (slice_index (ec i) 2) ∷ unsub (slice_index (eb i) 3) ∷ []) (bytes_at k 0) ++ add (unsub (slice_index (eb i) 0) ∷ unsub (slice_index (ea i) 1) ∷ unsub (slice_index (ed i) 2) ∷ unsub (slice_index (ec i) 3) ∷ []) (bytes_at k 1) ++ add (unsub (slice_index (ec i) 0) ∷ unsub (slice_index (eb i) 1) ∷ unsub (slice_index (ea i) 2) ∷ unsub (slice_index (ed i) 3) ∷ []) (bytes_at k 2) ++ add (unsub (slice_index (ed i) 0) ∷ unsub (slice_index (ec i) 1) ∷ unsub (slice_index (eb i) 2) ∷ unsub (slice_index (ea i) 3) ∷ []) (bytes_at k 3))

@@ -1,11 +1,11 @@
 -- The tables hold what the field gives, at each of the 256 bytes.
-use Rattle.std.proofs.Common.{◌≡◌, ℕ, ◌<◌, List, [], ◌∷◌, refl, sym, ap, ◌∙◌, slice_index, get_or, map, arith, length}
+use Rattle.std.proofs.Common.{◌≡◌, ℕ, zero, suc, ◌+◌, ◌*◌, ◌<◌, List, [], ◌∷◌, refl, sym, ap, ◌∙◌, slice_index, get_or, map, take, drop, arith, length}
 use Rattle.std.specs.List.{range_with_len}
 use Rattle.std.specs.Int.{w32, to_be_bytes}
-use Rattle.std.proofs.lemmas.List.{get_or-map}
+use Rattle.std.proofs.lemmas.List.{get_or-map, get_or-take, get_or-drop}
 use Rattle.std.proofs.lemmas.List.FromFn.{get_or-map-range_with_len}
-use Rattle.ossl_aes.specs.declared.tables.TheConstants.{SUB, UNSUB, ENC0, ENC1, ENC2, ENC3, DEC0, DEC1, DEC2, DEC3, ROUND_CONSTANTS}
-use Rattle.ossl_aes.specs.Cipher.{scaled}
+use Rattle.ossl_aes.specs.declared.tables.TheConstants.{SUB, UNSUB, ENC, DEC, ROUND_CONSTANTS}
+use Rattle.ossl_aes.specs.Cipher.{scaled, enc_word, dec_word}
 use Rattle.ossl_aes.specs.Field.{sub, unsub, times, power, mul}
 
 -- an entry of a table of a function's values
@@ -46,76 +46,99 @@ undone b r hb hr e =
 abbrev pub part : ℕ → ℕ → ℕ → ℕ → ℕ → List ℕ
 part m n p q b = mul m b ∷ mul n b ∷ mul p b ∷ mul q b ∷ []
 
--- a table of words over the S-box or its inverse
-module _ (t box : List ℕ) (m n p q : ℕ) (len : length box ≡ 256) (lent : length t ≡ 256) where
-  word_in : t ≡ map (scaled m n p q) box → (b : ℕ) → b < 256 → slice_index t b ≡ scaled m n p q (slice_index box b)
-  word_in e b h = ap (λ (x : List ℕ). slice_index x b) e ∙ get_or-map (scaled m n p q) box b 0 0 (omega arith)
+from_start : (t : List ℕ) (b : ℕ) → slice_index t (0 + b) ≡ slice_index t b
+from_start t b = let e : 0 + b ≡ b = omega arith in ap (slice_index t) e
 
-  bytes_in : map (to_be_bytes w32) t ≡ map (part m n p q) box → (b : ℕ) → b < 256 → to_be_bytes w32 (slice_index t b) ≡ part m n p q (slice_index box b)
-  bytes_in e b h =
-      sym (get_or-map (to_be_bytes w32) t b 0 [] (omega arith)) ∙ ap (λ (x : List (List ℕ)). get_or x b []) e
-      ∙ get_or-map (part m n p q) box b 0 [] (omega arith)
+-- the 256 words from the place k of a table on, over the S-box or its inverse
+module _ (t box : List ℕ) (k m n p q : ℕ) (len : length box ≡ 256) where
+  word_from : (b : ℕ) → b < 256 → get_or (take 256 (drop k t)) b 0 ≡ slice_index t (k + b)
+  word_from b h = get_or-take 256 (drop k t) b 0 h ∙ get_or-drop k t b 0
 
-pub enc0_word : (b : ℕ) → b < 256 → slice_index ENC0 b ≡ scaled 2 1 1 3 (sub b)
+  word_in : take 256 (drop k t) ≡ map (scaled m n p q) box → (b : ℕ) → b < 256 → slice_index t (k + b) ≡ scaled m n p q (slice_index box b)
+  word_in e b h = sym (word_from b h) ∙ ap (λ (x : List ℕ). slice_index x b) e ∙ get_or-map (scaled m n p q) box b 0 0 (omega arith)
+
+  bytes_in : length (take 256 (drop k t)) ≡ 256 → map (to_be_bytes w32) (take 256 (drop k t)) ≡ map (part m n p q) box → (b : ℕ) → b < 256
+      → to_be_bytes w32 (slice_index t (k + b)) ≡ part m n p q (slice_index box b)
+  bytes_in lent e b h =
+      ap (to_be_bytes w32) (sym (word_from b h)) ∙ sym (get_or-map (to_be_bytes w32) (take 256 (drop k t)) b 0 [] (omega arith))
+      ∙ ap (λ (x : List (List ℕ)). get_or x b []) e ∙ get_or-map (part m n p q) box b 0 [] (omega arith)
+
+enc0_word : (b : ℕ) → b < 256 → slice_index ENC b ≡ scaled 2 1 1 3 (sub b)
 unfolding times
-enc0_word b h = word_in ENC0 SUB 2 1 1 3 refl refl refl b h ∙ ap (scaled 2 1 1 3) (sub_at b h)
+enc0_word b h = sym (from_start ENC b) ∙ word_in ENC SUB 0 2 1 1 3 refl refl b h ∙ ap (scaled 2 1 1 3) (sub_at b h)
 
-pub enc0_bytes : (b : ℕ) → b < 256 → to_be_bytes w32 (slice_index ENC0 b) ≡ part 2 1 1 3 (sub b)
+pub enc0_bytes : (b : ℕ) → b < 256 → to_be_bytes w32 (slice_index ENC b) ≡ part 2 1 1 3 (sub b)
 unfolding times
-enc0_bytes b h = bytes_in ENC0 SUB 2 1 1 3 refl refl refl b h ∙ ap (part 2 1 1 3) (sub_at b h)
+enc0_bytes b h = ap (to_be_bytes w32) (sym (from_start ENC b)) ∙ bytes_in ENC SUB 0 2 1 1 3 refl refl refl b h ∙ ap (part 2 1 1 3) (sub_at b h)
 
-pub enc1_word : (b : ℕ) → b < 256 → slice_index ENC1 b ≡ scaled 3 2 1 1 (sub b)
+enc1_word : (b : ℕ) → b < 256 → slice_index ENC (256 + b) ≡ scaled 3 2 1 1 (sub b)
 unfolding times
-enc1_word b h = word_in ENC1 SUB 3 2 1 1 refl refl refl b h ∙ ap (scaled 3 2 1 1) (sub_at b h)
+enc1_word b h = word_in ENC SUB 256 3 2 1 1 refl refl b h ∙ ap (scaled 3 2 1 1) (sub_at b h)
 
-pub enc1_bytes : (b : ℕ) → b < 256 → to_be_bytes w32 (slice_index ENC1 b) ≡ part 3 2 1 1 (sub b)
+pub enc1_bytes : (b : ℕ) → b < 256 → to_be_bytes w32 (slice_index ENC (256 + b)) ≡ part 3 2 1 1 (sub b)
 unfolding times
-enc1_bytes b h = bytes_in ENC1 SUB 3 2 1 1 refl refl refl b h ∙ ap (part 3 2 1 1) (sub_at b h)
+enc1_bytes b h = bytes_in ENC SUB 256 3 2 1 1 refl refl refl b h ∙ ap (part 3 2 1 1) (sub_at b h)
 
-pub enc2_word : (b : ℕ) → b < 256 → slice_index ENC2 b ≡ scaled 1 3 2 1 (sub b)
+enc2_word : (b : ℕ) → b < 256 → slice_index ENC (512 + b) ≡ scaled 1 3 2 1 (sub b)
 unfolding times
-enc2_word b h = word_in ENC2 SUB 1 3 2 1 refl refl refl b h ∙ ap (scaled 1 3 2 1) (sub_at b h)
+enc2_word b h = word_in ENC SUB 512 1 3 2 1 refl refl b h ∙ ap (scaled 1 3 2 1) (sub_at b h)
 
-pub enc2_bytes : (b : ℕ) → b < 256 → to_be_bytes w32 (slice_index ENC2 b) ≡ part 1 3 2 1 (sub b)
+pub enc2_bytes : (b : ℕ) → b < 256 → to_be_bytes w32 (slice_index ENC (512 + b)) ≡ part 1 3 2 1 (sub b)
 unfolding times
-enc2_bytes b h = bytes_in ENC2 SUB 1 3 2 1 refl refl refl b h ∙ ap (part 1 3 2 1) (sub_at b h)
+enc2_bytes b h = bytes_in ENC SUB 512 1 3 2 1 refl refl refl b h ∙ ap (part 1 3 2 1) (sub_at b h)
 
-pub enc3_word : (b : ℕ) → b < 256 → slice_index ENC3 b ≡ scaled 1 1 3 2 (sub b)
+enc3_word : (b : ℕ) → b < 256 → slice_index ENC (768 + b) ≡ scaled 1 1 3 2 (sub b)
 unfolding times
-enc3_word b h = word_in ENC3 SUB 1 1 3 2 refl refl refl b h ∙ ap (scaled 1 1 3 2) (sub_at b h)
+enc3_word b h = word_in ENC SUB 768 1 1 3 2 refl refl b h ∙ ap (scaled 1 1 3 2) (sub_at b h)
 
-pub enc3_bytes : (b : ℕ) → b < 256 → to_be_bytes w32 (slice_index ENC3 b) ≡ part 1 1 3 2 (sub b)
+pub enc3_bytes : (b : ℕ) → b < 256 → to_be_bytes w32 (slice_index ENC (768 + b)) ≡ part 1 1 3 2 (sub b)
 unfolding times
-enc3_bytes b h = bytes_in ENC3 SUB 1 1 3 2 refl refl refl b h ∙ ap (part 1 1 3 2) (sub_at b h)
+enc3_bytes b h = bytes_in ENC SUB 768 1 1 3 2 refl refl refl b h ∙ ap (part 1 1 3 2) (sub_at b h)
 
-pub dec0_word : (b : ℕ) → b < 256 → slice_index DEC0 b ≡ scaled 14 9 13 11 (unsub b)
-unfolding times
-dec0_word b h = word_in DEC0 UNSUB 14 9 13 11 refl refl refl b h ∙ ap (scaled 14 9 13 11) (unsub_at b h)
+-- the words of each column
+pub enc_words : (c b : ℕ) → c < 4 → b < 256 → slice_index ENC (256 * c + b) ≡ enc_word c b
+enc_words zero b less h = from_start ENC b ∙ enc0_word b h
+enc_words (suc zero) b less h = enc1_word b h
+enc_words (suc (suc zero)) b less h = enc2_word b h
+enc_words (suc (suc (suc zero))) b less h = enc3_word b h
+enc_words (suc (suc (suc (suc c)))) b less h = absurd (omega arith)
 
-pub dec0_bytes : (b : ℕ) → b < 256 → to_be_bytes w32 (slice_index DEC0 b) ≡ part 14 9 13 11 (unsub b)
+dec0_word : (b : ℕ) → b < 256 → slice_index DEC b ≡ scaled 14 9 13 11 (unsub b)
 unfolding times
-dec0_bytes b h = bytes_in DEC0 UNSUB 14 9 13 11 refl refl refl b h ∙ ap (part 14 9 13 11) (unsub_at b h)
+dec0_word b h = sym (from_start DEC b) ∙ word_in DEC UNSUB 0 14 9 13 11 refl refl b h ∙ ap (scaled 14 9 13 11) (unsub_at b h)
 
-pub dec1_word : (b : ℕ) → b < 256 → slice_index DEC1 b ≡ scaled 11 14 9 13 (unsub b)
+pub dec0_bytes : (b : ℕ) → b < 256 → to_be_bytes w32 (slice_index DEC b) ≡ part 14 9 13 11 (unsub b)
 unfolding times
-dec1_word b h = word_in DEC1 UNSUB 11 14 9 13 refl refl refl b h ∙ ap (scaled 11 14 9 13) (unsub_at b h)
+dec0_bytes b h = ap (to_be_bytes w32) (sym (from_start DEC b)) ∙ bytes_in DEC UNSUB 0 14 9 13 11 refl refl refl b h ∙ ap (part 14 9 13 11) (unsub_at b h)
 
-pub dec1_bytes : (b : ℕ) → b < 256 → to_be_bytes w32 (slice_index DEC1 b) ≡ part 11 14 9 13 (unsub b)
+dec1_word : (b : ℕ) → b < 256 → slice_index DEC (256 + b) ≡ scaled 11 14 9 13 (unsub b)
 unfolding times
-dec1_bytes b h = bytes_in DEC1 UNSUB 11 14 9 13 refl refl refl b h ∙ ap (part 11 14 9 13) (unsub_at b h)
+dec1_word b h = word_in DEC UNSUB 256 11 14 9 13 refl refl b h ∙ ap (scaled 11 14 9 13) (unsub_at b h)
 
-pub dec2_word : (b : ℕ) → b < 256 → slice_index DEC2 b ≡ scaled 13 11 14 9 (unsub b)
+pub dec1_bytes : (b : ℕ) → b < 256 → to_be_bytes w32 (slice_index DEC (256 + b)) ≡ part 11 14 9 13 (unsub b)
 unfolding times
-dec2_word b h = word_in DEC2 UNSUB 13 11 14 9 refl refl refl b h ∙ ap (scaled 13 11 14 9) (unsub_at b h)
+dec1_bytes b h = bytes_in DEC UNSUB 256 11 14 9 13 refl refl refl b h ∙ ap (part 11 14 9 13) (unsub_at b h)
 
-pub dec2_bytes : (b : ℕ) → b < 256 → to_be_bytes w32 (slice_index DEC2 b) ≡ part 13 11 14 9 (unsub b)
+dec2_word : (b : ℕ) → b < 256 → slice_index DEC (512 + b) ≡ scaled 13 11 14 9 (unsub b)
 unfolding times
-dec2_bytes b h = bytes_in DEC2 UNSUB 13 11 14 9 refl refl refl b h ∙ ap (part 13 11 14 9) (unsub_at b h)
+dec2_word b h = word_in DEC UNSUB 512 13 11 14 9 refl refl b h ∙ ap (scaled 13 11 14 9) (unsub_at b h)
 
-pub dec3_word : (b : ℕ) → b < 256 → slice_index DEC3 b ≡ scaled 9 13 11 14 (unsub b)
+pub dec2_bytes : (b : ℕ) → b < 256 → to_be_bytes w32 (slice_index DEC (512 + b)) ≡ part 13 11 14 9 (unsub b)
 unfolding times
-dec3_word b h = word_in DEC3 UNSUB 9 13 11 14 refl refl refl b h ∙ ap (scaled 9 13 11 14) (unsub_at b h)
+dec2_bytes b h = bytes_in DEC UNSUB 512 13 11 14 9 refl refl refl b h ∙ ap (part 13 11 14 9) (unsub_at b h)
 
-pub dec3_bytes : (b : ℕ) → b < 256 → to_be_bytes w32 (slice_index DEC3 b) ≡ part 9 13 11 14 (unsub b)
+dec3_word : (b : ℕ) → b < 256 → slice_index DEC (768 + b) ≡ scaled 9 13 11 14 (unsub b)
 unfolding times
-dec3_bytes b h = bytes_in DEC3 UNSUB 9 13 11 14 refl refl refl b h ∙ ap (part 9 13 11 14) (unsub_at b h)
+dec3_word b h = word_in DEC UNSUB 768 9 13 11 14 refl refl b h ∙ ap (scaled 9 13 11 14) (unsub_at b h)
+
+pub dec3_bytes : (b : ℕ) → b < 256 → to_be_bytes w32 (slice_index DEC (768 + b)) ≡ part 9 13 11 14 (unsub b)
+unfolding times
+dec3_bytes b h = bytes_in DEC UNSUB 768 9 13 11 14 refl refl refl b h ∙ ap (part 9 13 11 14) (unsub_at b h)
+
+-- the words of each column
+pub dec_words : (c b : ℕ) → c < 4 → b < 256 → slice_index DEC (256 * c + b) ≡ dec_word c b
+dec_words zero b less h = from_start DEC b ∙ dec0_word b h
+dec_words (suc zero) b less h = dec1_word b h
+dec_words (suc (suc zero)) b less h = dec2_word b h
+dec_words (suc (suc (suc zero))) b less h = dec3_word b h
+dec_words (suc (suc (suc (suc c)))) b less h = absurd (omega arith)

@@ -1,7 +1,6 @@
 -- A state as four words, and the rounds by their keys' bytes: how the code goes about the cipher.
-use Rattle.std.specs.Prelude.{ℕ, ◌+◌, ◌*◌, ◌/◌, ◌%◌, ◌^◌, List, [], ◌∷◌, ◌++◌, map, slice_index, ◌≡◌, ◌<◌, ◌≤◌}
+use Rattle.std.specs.Prelude.{ℕ, ◌+◌, ◌*◌, ◌%◌, List, ◌++◌, map, slice_index, ◌≡◌, ◌<◌, ◌≤◌}
 use Rattle.std.specs.Int.{w32, to_be_bytes}
-use Rattle.ossl_aes.specs.declared.rounds.Packed.{Packed}
 use Rattle.ossl_aes.specs.Field.{sub, unsub}
 use Rattle.ossl_aes.specs.Cipher.{add, column, shift_rows, inv_shift_rows, mix_columns, inv_mix_columns}
 
@@ -14,10 +13,6 @@ abbrev pub state_of : List ℕ → List ℕ
 state_of w =
     to_be_bytes w32 (slice_index w 0) ++ to_be_bytes w32 (slice_index w 1)
     ++ to_be_bytes w32 (slice_index w 2) ++ to_be_bytes w32 (slice_index w 3)
-
--- the four words of a state whose last two stand in one number
-abbrev pub words_of : Packed → List ℕ
-words_of s = s.first ∷ s.second ∷ s.last / 2 ^ 32 ∷ s.last % 2 ^ 32 ∷ []
 
 -- a round with the key k
 unfoldable pub round : List ℕ → List ℕ → List ℕ

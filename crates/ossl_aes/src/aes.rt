@@ -1,12 +1,13 @@
 //! The cipher with its key.
 
 ghost use Rattle.std.specs.Prelude.{◌≡◌, ℕ, ◌+◌, ◌*◌, ◌≤◌, List, [], ◌∷◌, length, slice_index};
-ghost use Rattle.ossl_aes.specs.Cipher.{add, schedule, cipher, inv_cipher};
-ghost use Rattle.ossl_aes.specs.State.{IsSize, AreInvMixed, state_of};
+ghost use Rattle.ossl_aes.specs.Cipher.{schedule, cipher, inv_cipher};
+ghost use Rattle.ossl_aes.specs.State.{IsSize, AreInvMixed};
 
 use crate::block::Block;
-use crate::rounds::{dec_last, dec_round, enc_last, enc_round, packed_state, words};
-use crate::schedule::{inv_mixed_word, temp_word, word};
+use crate::columns::{add, load, store, word};
+use crate::rounds::{dec_last, dec_round, enc_last, enc_round};
+use crate::schedule::{inv_mixed_word, temp_word};
 use std::marker::Model;
 
 /// AES with a key of `NK` words, expanded to `WORDS` words: `Aes<4, 44>`, `Aes<6, 52>` or `Aes<8, 60>`.
@@ -26,18 +27,6 @@ impl<const NK: usize, const WORDS: usize> Model for Aes<NK, WORDS> {
 }
 
 #[inline(always)]
-fn load(block: &[u8]) -> [u32; 4]
-    requires { length block.now ≡ 16 }
-    ensures { state_of result ≡ block.now }
-{
-    let w0 = word(block, 0);
-    let w1 = word(block, 4);
-    let w2 = word(block, 8);
-    let w3 = word(block, 12);
-    [w0, w1, w2, w3]
-}
-
-#[inline(always)]
 fn round_key(words: &[u32], n: usize) -> [u32; 4]
     requires { 4 * n + 4 ≤ length words.now }
     ensures { result ≡ slice_index words.now (4 * n) ∷ slice_index words.now (4 * n + 1) ∷ slice_index words.now (4 * n + 2) ∷ slice_index words.now (4 * n + 3) ∷ [] }
@@ -48,13 +37,6 @@ fn round_key(words: &[u32], n: usize) -> [u32; 4]
         words[4 * n + 2],
         words[4 * n + 3],
     ]
-}
-
-#[inline(always)]
-fn add(s: [u32; 4], k: [u32; 4]) -> [u32; 4]
-    ensures { state_of result ≡ add (state_of s) (state_of k) }
-{
-    [s[0] ^ k[0], s[1] ^ k[1], s[2] ^ k[2], s[3] ^ k[3]]
 }
 
 impl<const NK: usize, const WORDS: usize> Aes<NK, WORDS> {
@@ -86,19 +68,21 @@ impl<const NK: usize, const WORDS: usize> Block for Aes<NK, WORDS> {
 
     #[inline]
     fn encrypt(&self, block: [u8; 16]) -> [u8; 16] {
-        let mut s = packed_state(add(load(&block), round_key(&self.words, 0)));
+        let mut s = add(load(&block), round_key(&self.words, 0));
         'round: for n in 1..NK + 6 {
-            s = packed_state(enc_round(words(s), round_key(&self.words, n)));
+            let next = enc_round(s, round_key(&self.words, n));
+            s = next;
         }
-        enc_last(words(s), round_key(&self.words, NK + 6))
+        store(enc_last(s, round_key(&self.words, NK + 6)))
     }
 
     #[inline]
     fn decrypt(&self, block: [u8; 16]) -> [u8; 16] {
-        let mut s = packed_state(add(load(&block), round_key(&self.words, NK + 6)));
+        let mut s = add(load(&block), round_key(&self.words, NK + 6));
         'round: for n in 1..NK + 6 {
-            s = packed_state(dec_round(words(s), round_key(&self.inv_words, NK + 6 - n)));
+            let next = dec_round(s, round_key(&self.inv_words, NK + 6 - n));
+            s = next;
         }
-        dec_last(words(s), round_key(&self.words, 0))
+        store(dec_last(s, round_key(&self.words, 0)))
     }
 }

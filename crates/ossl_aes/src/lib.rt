@@ -5,6 +5,7 @@
 
 mod aes;
 mod block;
+mod columns;
 #[cfg(test)]
 mod plain;
 mod rounds;

@@ -1,20 +1,12 @@
 //! The words of the key schedule (FIPS 197, 5.2).
 
-ghost use Rattle.std.specs.Prelude.{◌≡◌, ◌+◌, ◌*◌, ◌/◌, ◌<◌, ◌≤◌, length};
+ghost use Rattle.std.specs.Prelude.{◌≡◌, ◌/◌, ◌<◌, ◌≤◌};
 ghost use Rattle.std.specs.Int.{w32, to_be_bytes};
-ghost use Rattle.ossl_aes.specs.Cipher.{word_at, sub_word, temp_word};
+ghost use Rattle.ossl_aes.specs.Cipher.{sub_word, temp_word};
 ghost use Rattle.ossl_aes.specs.State.{inv_mixed_column};
 
 use crate::rounds::{dec_column, sub};
 use crate::tables::ROUND_CONSTANTS;
-
-/// The word at byte `i`.
-pub fn word(bytes: &[u8], i: usize) -> u32
-    requires { i + 4 ≤ length bytes.now }
-    ensures { result ≡ word_at bytes.now i }
-{
-    u32::from_be_bytes([bytes[i], bytes[i + 1], bytes[i + 2], bytes[i + 3]])
-}
 
 fn sub_word(w: u32) -> u32
     ensures { result ≡ sub_word w }

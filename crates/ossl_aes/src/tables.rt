@@ -1,18 +1,23 @@
 //! The S-box, its inverse, the words of the rounds and the round constants as tables. The rounds' words stand once for
-//! each direction; the tables of the other rows hold the same words turned.
+//! each direction; a macro turns them for the other columns of the matrix. All 1,024 words of a direction are one
+//! table, so that one register holds its place.
 
-// A list of words turned right by a number of bits.
+// A list of words, and after it the same words turned right by one, two and three bytes.
 macro_rules! turned {
-    ($by:literal; $($word:literal),* $(,)?) => {
-        [$(($word >> $by) | ($word << (24 - $by) << 8)),*]
+    ($($word:literal),* $(,)?) => {
+        [
+            $($word,)*
+            $(($word >> 8) | ($word << 24),)*
+            $(($word >> 16) | ($word << 16),)*
+            $(($word >> 24) | ($word << 8),)*
+        ]
     };
 }
 
-// The first column of the matrix 2 3 1 1 times each byte of the S-box, top row first, turned.
+// The columns of the matrix 2 3 1 1 times each byte of the S-box, top row first.
 macro_rules! enc_words {
-    ($by:literal) => {
+    () => {
         turned![
-            $by;
             0xc66363a5, 0xf87c7c84, 0xee777799, 0xf67b7b8d, 0xfff2f20d, 0xd66b6bbd, 0xde6f6fb1, 0x91c5c554,
             0x60303050, 0x02010103, 0xce6767a9, 0x562b2b7d, 0xe7fefe19, 0xb5d7d762, 0x4dababe6, 0xec76769a,
             0x8fcaca45, 0x1f82829d, 0x89c9c940, 0xfa7d7d87, 0xeffafa15, 0xb25959eb, 0x8e4747c9, 0xfbf0f00b,
@@ -49,11 +54,10 @@ macro_rules! enc_words {
     };
 }
 
-// The first column of the matrix 14 11 13 9 times each byte of the inverse S-box, top row first, turned.
+// The columns of the matrix 14 11 13 9 times each byte of the inverse S-box, top row first.
 macro_rules! dec_words {
-    ($by:literal) => {
+    () => {
         turned![
-            $by;
             0x51f4a750, 0x7e416553, 0x1a17a4c3, 0x3a275e96, 0x3bab6bcb, 0x1f9d45f1, 0xacfa58ab, 0x4be30393,
             0x2030fa55, 0xad766df6, 0x88cc7691, 0xf5024c25, 0x4fe5d7fc, 0xc52acbd7, 0x26354480, 0xb562a38f,
             0xdeb15a49, 0x25ba1b67, 0x45ea0e98, 0x5dfec0e1, 0xc32f7502, 0x814cf012, 0x8d4697a3, 0x6bd3f9c6,
@@ -130,21 +134,11 @@ pub const UNSUB: [u8; 256] = [
     0x17, 0x2b, 0x04, 0x7e, 0xba, 0x77, 0xd6, 0x26, 0xe1, 0x69, 0x14, 0x63, 0x55, 0x21, 0x0c, 0x7d,
 ];
 
-pub const ENC0: [u32; 256] = enc_words!(0);
+/// The columns of the matrix times each byte of the S-box: 256 words a column (FIPS 197, 5.1.3).
+pub const ENC: [u32; 1024] = enc_words!();
 
-pub const ENC1: [u32; 256] = enc_words!(8);
-
-pub const ENC2: [u32; 256] = enc_words!(16);
-
-pub const ENC3: [u32; 256] = enc_words!(24);
-
-pub const DEC0: [u32; 256] = dec_words!(0);
-
-pub const DEC1: [u32; 256] = dec_words!(8);
-
-pub const DEC2: [u32; 256] = dec_words!(16);
-
-pub const DEC3: [u32; 256] = dec_words!(24);
+/// The columns of the inverse matrix times each byte of the inverse S-box: 256 words a column (FIPS 197, 5.3.3).
+pub const DEC: [u32; 1024] = dec_words!();
 
 /// The round constants: the powers of 2 in the field (FIPS 197, 5.2).
 pub const ROUND_CONSTANTS: [u8; 10] = [0x01, 0x02, 0x04, 0x08, 0x10, 0x20, 0x40, 0x80, 0x1b, 0x36];

@@ -18,45 +18,40 @@ const IV: [u8; 16] = [
     0x00, 0x01, 0x02, 0x03, 0x04, 0x05, 0x06, 0x07, 0x08, 0x09, 0x0a, 0x0b, 0x0c, 0x0d, 0x0e, 0x0f,
 ];
 
-const COUNTER: [u8; 16] = [
-    0xf0, 0xf1, 0xf2, 0xf3, 0xf4, 0xf5, 0xf6, 0xf7, 0xf8, 0xf9, 0xfa, 0xfb, 0xfc, 0xfd, 0xfe, 0xff,
-];
+// The examples there: the mode, the initial value and the ciphertext's four blocks.
+macro_rules! examples {
+    ($($kind:ident $iv:literal: $($block:literal)*;)*) => {
+        [$((ModeKind::$kind, $iv, [$($block),*])),*]
+    };
+}
 
-// The ciphertexts there.
-const ECB_TEXT: [u8; 64] = [
-    0x3a, 0xd7, 0x7b, 0xb4, 0x0d, 0x7a, 0x36, 0x60, 0xa8, 0x9e, 0xca, 0xf3, 0x24, 0x66, 0xef, 0x97,
-    0xf5, 0xd3, 0xd5, 0x85, 0x03, 0xb9, 0x69, 0x9d, 0xe7, 0x85, 0x89, 0x5a, 0x96, 0xfd, 0xba, 0xaf,
-    0x43, 0xb1, 0xcd, 0x7f, 0x59, 0x8e, 0xce, 0x23, 0x88, 0x1b, 0x00, 0xe3, 0xed, 0x03, 0x06, 0x88,
-    0x7b, 0x0c, 0x78, 0x5e, 0x27, 0xe8, 0xad, 0x3f, 0x82, 0x23, 0x20, 0x71, 0x04, 0x72, 0x5d, 0xd4,
-];
-
-const CBC_TEXT: [u8; 64] = [
-    0x76, 0x49, 0xab, 0xac, 0x81, 0x19, 0xb2, 0x46, 0xce, 0xe9, 0x8e, 0x9b, 0x12, 0xe9, 0x19, 0x7d,
-    0x50, 0x86, 0xcb, 0x9b, 0x50, 0x72, 0x19, 0xee, 0x95, 0xdb, 0x11, 0x3a, 0x91, 0x76, 0x78, 0xb2,
-    0x73, 0xbe, 0xd6, 0xb8, 0xe3, 0xc1, 0x74, 0x3b, 0x71, 0x16, 0xe6, 0x9e, 0x22, 0x22, 0x95, 0x16,
-    0x3f, 0xf1, 0xca, 0xa1, 0x68, 0x1f, 0xac, 0x09, 0x12, 0x0e, 0xca, 0x30, 0x75, 0x86, 0xe1, 0xa7,
-];
-
-const CFB_TEXT: [u8; 64] = [
-    0x3b, 0x3f, 0xd9, 0x2e, 0xb7, 0x2d, 0xad, 0x20, 0x33, 0x34, 0x49, 0xf8, 0xe8, 0x3c, 0xfb, 0x4a,
-    0xc8, 0xa6, 0x45, 0x37, 0xa0, 0xb3, 0xa9, 0x3f, 0xcd, 0xe3, 0xcd, 0xad, 0x9f, 0x1c, 0xe5, 0x8b,
-    0x26, 0x75, 0x1f, 0x67, 0xa3, 0xcb, 0xb1, 0x40, 0xb1, 0x80, 0x8c, 0xf1, 0x87, 0xa4, 0xf4, 0xdf,
-    0xc0, 0x4b, 0x05, 0x35, 0x7c, 0x5d, 0x1c, 0x0e, 0xea, 0xc4, 0xc6, 0x6f, 0x9f, 0xf7, 0xf2, 0xe6,
-];
-
-const OFB_TEXT: [u8; 64] = [
-    0x3b, 0x3f, 0xd9, 0x2e, 0xb7, 0x2d, 0xad, 0x20, 0x33, 0x34, 0x49, 0xf8, 0xe8, 0x3c, 0xfb, 0x4a,
-    0x77, 0x89, 0x50, 0x8d, 0x16, 0x91, 0x8f, 0x03, 0xf5, 0x3c, 0x52, 0xda, 0xc5, 0x4e, 0xd8, 0x25,
-    0x97, 0x40, 0x05, 0x1e, 0x9c, 0x5f, 0xec, 0xf6, 0x43, 0x44, 0xf7, 0xa8, 0x22, 0x60, 0xed, 0xcc,
-    0x30, 0x4c, 0x65, 0x28, 0xf6, 0x59, 0xc7, 0x78, 0x66, 0xa5, 0x10, 0xd9, 0xc1, 0xd6, 0xae, 0x5e,
-];
-
-const CTR_TEXT: [u8; 64] = [
-    0x87, 0x4d, 0x61, 0x91, 0xb6, 0x20, 0xe3, 0x26, 0x1b, 0xef, 0x68, 0x64, 0x99, 0x0d, 0xb6, 0xce,
-    0x98, 0x06, 0xf6, 0x6b, 0x79, 0x70, 0xfd, 0xff, 0x86, 0x17, 0x18, 0x7b, 0xb9, 0xff, 0xfd, 0xff,
-    0x5a, 0xe4, 0xdf, 0x3e, 0xdb, 0xd5, 0xd3, 0x5e, 0x5b, 0x4f, 0x09, 0x02, 0x0d, 0xb0, 0x3e, 0xab,
-    0x1e, 0x03, 0x1d, 0xda, 0x2f, 0xbe, 0x03, 0xd1, 0x79, 0x21, 0x70, 0xa0, 0xf3, 0x00, 0x9c, 0xee,
-];
+const EXAMPLES: [(ModeKind, u128, [u128; 4]); 5] = examples! {
+    Ecb 0x0001_0203_0405_0607_0809_0a0b_0c0d_0e0f:
+        0x3ad7_7bb4_0d7a_3660_a89e_caf3_2466_ef97
+        0xf5d3_d585_03b9_699d_e785_895a_96fd_baaf
+        0x43b1_cd7f_598e_ce23_881b_00e3_ed03_0688
+        0x7b0c_785e_27e8_ad3f_8223_2071_0472_5dd4;
+    Cbc 0x0001_0203_0405_0607_0809_0a0b_0c0d_0e0f:
+        0x7649_abac_8119_b246_cee9_8e9b_12e9_197d
+        0x5086_cb9b_5072_19ee_95db_113a_9176_78b2
+        0x73be_d6b8_e3c1_743b_7116_e69e_2222_9516
+        0x3ff1_caa1_681f_ac09_120e_ca30_7586_e1a7;
+    Cfb 0x0001_0203_0405_0607_0809_0a0b_0c0d_0e0f:
+        0x3b3f_d92e_b72d_ad20_3334_49f8_e83c_fb4a
+        0xc8a6_4537_a0b3_a93f_cde3_cdad_9f1c_e58b
+        0x2675_1f67_a3cb_b140_b180_8cf1_87a4_f4df
+        0xc04b_0535_7c5d_1c0e_eac4_c66f_9ff7_f2e6;
+    Ofb 0x0001_0203_0405_0607_0809_0a0b_0c0d_0e0f:
+        0x3b3f_d92e_b72d_ad20_3334_49f8_e83c_fb4a
+        0x7789_508d_1691_8f03_f53c_52da_c54e_d825
+        0x9740_051e_9c5f_ecf6_4344_f7a8_2260_edcc
+        0x304c_6528_f659_c778_66a5_10d9_c1d6_ae5e;
+    Ctr 0xf0f1_f2f3_f4f5_f6f7_f8f9_fafb_fcfd_feff:
+        0x874d_6191_b620_e326_1bef_6864_990d_b6ce
+        0x9806_f66b_7970_fdff_8617_187b_b9ff_fdff
+        0x5ae4_df3e_dbd5_d35e_5b4f_0902_0db0_3eab
+        0x1e03_1dda_2fbe_03d1_7921_70a0_f300_9cee;
+};
 
 const KINDS: [ModeKind; 5] = [
     ModeKind::Ecb,
@@ -81,18 +76,22 @@ fn text(
     Ok(out)
 }
 
+// The bytes of four blocks.
+fn bytes_of(blocks: [u128; 4]) -> [u8; 64] {
+    let mut bytes = [0; 64];
+    for i in 0..4usize {
+        bytes[16 * i..16 * i + 16].copy_from_slice(&blocks[i].to_be_bytes());
+    }
+    bytes
+}
+
 #[test]
 fn examples_of_the_standard(rt: HostRuntime) -> Result<(), Fail> {
-    for (kind, iv, image) in [
-        (ModeKind::Ecb, IV, ECB_TEXT),
-        (ModeKind::Cbc, IV, CBC_TEXT),
-        (ModeKind::Cfb, IV, CFB_TEXT),
-        (ModeKind::Ofb, IV, OFB_TEXT),
-        (ModeKind::Ctr, COUNTER, CTR_TEXT),
-    ] {
-        let there = text(&rt, kind, iv, false, false, &[&TEXT])?;
+    for (kind, iv, blocks) in EXAMPLES {
+        let image = bytes_of(blocks);
+        let there = text(&rt, kind, iv.to_be_bytes(), false, false, &[&TEXT])?;
         assert_eq!(rt; there.as_slice(), image.as_slice(), "{kind:?}");
-        let back = text(&rt, kind, iv, true, false, &[&image])?;
+        let back = text(&rt, kind, iv.to_be_bytes(), true, false, &[&image])?;
         assert_eq!(rt; back.as_slice(), TEXT.as_slice(), "{kind:?}");
     }
     Ok(())
@@ -165,7 +164,7 @@ fn lengths_and_refusals(rt: HostRuntime) -> Result<(), Fail> {
 }
 
 // A block that decrypts to 00112233445566778899aabbccddeeff before the IV, with a key of 192 bits: which of its last
-// bytes are a padding depends on the IV.
+// bytes are a padding depends on the IV. Fifteen bytes and none are no whole block.
 #[test]
 fn paddings(rt: HostRuntime) -> Result<(), Fail> {
     let key = 0x0001_0203_0405_0607_0809_0a0b_0c0d_0e0f_u128.to_be_bytes();
@@ -174,14 +173,18 @@ fn paddings(rt: HostRuntime) -> Result<(), Fail> {
     let mut long = [0; 24];
     long[..16].copy_from_slice(&key);
     long[16..].copy_from_slice(&0x1011_1213_1415_1617_u64.to_be_bytes());
-    for (iv, wanted) in [
-        (0xfe, Some(15)),
-        (0xecfd, Some(14)),
-        (0x1001_3223_5445_7667_9889_baab_dccd_feef, Some(0)),
-        (0, None),
-        (0xff, None),
-        (0xee, None),
-        (0xfd, None),
+    let bytes: &[u8] = &block;
+    let zeros: &[u8] = &[0; 15];
+    for (iv, data, wanted) in [
+        (0xfe, bytes, Ok(15)),
+        (0xecfd, bytes, Ok(14)),
+        (0x1001_3223_5445_7667_9889_baab_dccd_feef, bytes, Ok(0)),
+        (0, bytes, Err(FinishRefused::BadDecrypt)),
+        (0xff, bytes, Err(FinishRefused::BadDecrypt)),
+        (0xee, bytes, Err(FinishRefused::BadDecrypt)),
+        (0xfd, bytes, Err(FinishRefused::BadDecrypt)),
+        (0, zeros, Err(FinishRefused::WrongFinalBlock { rest: 15 })),
+        (0, &[], Err(FinishRefused::WrongFinalBlock { rest: 0 })),
     ] {
         let cipher: Aes<6, 52> = Aes::expand(&long);
         let iv: u128 = iv;
@@ -192,20 +195,15 @@ fn paddings(rt: HostRuntime) -> Result<(), Fail> {
             iv.to_be_bytes(),
             true,
             true,
-            &[&block],
+            &[data],
             &mut out,
         );
-        match wanted {
-            Some(n) => {
-                assert_eq!(rt; ended, Ok(()));
-                assert_eq!(rt; out.len(), n);
-                assert!(rt; n <= 16);
-                assert_eq!(rt; out.as_slice(), &plain[..n]);
-            }
-            None => {
-                assert_eq!(rt; ended, Err(FinishRefused::BadDecrypt), "{iv:x}");
-                assert_eq!(rt; out.len(), 0);
-            }
+        assert_eq!(rt; ended.map(|()| out.len()), wanted, "{iv:x}");
+        if let Ok(n) = wanted {
+            assert!(rt; n <= 16);
+            assert_eq!(rt; out.as_slice(), &plain[..n]);
+        } else {
+            assert_eq!(rt; out.len(), 0);
         }
     }
     Ok(())

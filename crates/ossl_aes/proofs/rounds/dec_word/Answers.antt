@@ -1,17 +1,6 @@
-use Rattle.std.proofs.Common.{◌≡◌, arith}
-use Rattle.ossl_aes.proofs.TableFacts.{dec0_word, dec1_word, dec2_word, dec3_word}
+use Rattle.std.proofs.Common.{arith}
+use Rattle.ossl_aes.proofs.TableFacts.{dec_words}
 use Rattle.ossl_aes.proofs.rounds.dec_word.Goals as goal
 
-pub returns-in-0 : goal.returns-in-0
-returns-in-0 c = rw c.in-0.is (dec0_word c.args.byte (omega arith))
-
-pub returns-in-1 : goal.returns-in-1
-returns-in-1 c = rw c.in-1.is (dec1_word c.args.byte (omega arith))
-
-pub returns-in-2 : goal.returns-in-2
-returns-in-2 c = rw c.in-2.is (dec2_word c.args.byte (omega arith))
-
-pub returns-in_default : goal.returns-in_default
-returns-in_default c =
-    let n : c.args.row ≡ 3 = omega arith in
-    rw n (dec3_word c.args.byte (omega arith))
+pub returns : goal.returns
+returns c = dec_words c.args.row c.args.byte (omega arith) (omega arith)

@@ -1,7 +1,7 @@
 use Rattle.std.proofs.Common.{◌≡◌, ◌-◌}
 use Rattle.ossl_aes.specs.Cipher.{rounds}
-use Rattle.ossl_aes.specs.State.{state_of, words_of}
+use Rattle.ossl_aes.specs.State.{state_of}
 use Rattle.ossl_aes.proofs.aes.AesBlock.encrypt.Given as goal
 
 abbrev pub invariant-round : goal.invariant-round
-invariant-round g l = state_of (words_of l.s) ≡ rounds l.self-inside.words l.fn.block (l.n - 1)
+invariant-round g l = state_of l.s ≡ rounds l.self-inside.words l.fn.block (l.n - 1)

@@ -1,0 +1,87 @@
+//! The state as four words, a column each, top row in the highest byte. A block goes in and out of memory in parts of 4, 4
+//! and 8 bytes, everywhere alike: what is read in the parts in which it was written need not wait for the memory, and
+//! parts that are not all alike are not gathered in a vector register, from which an index is slow to get.
+
+ghost use Rattle.std.specs.Prelude.{◌≡◌, ◌+◌, ◌*◌, ◌^◌, ◌≤◌, [], ◌∷◌, ◌++◌, length, slice_index, bit_xor};
+ghost use Rattle.std.specs.Int.{w32, to_be_bytes};
+ghost use Rattle.ossl_aes.specs.Cipher.{add, word_at};
+ghost use Rattle.ossl_aes.specs.State.{state_of};
+
+/// The word at byte `i`.
+#[inline(always)]
+pub fn word(bytes: &[u8], i: usize) -> u32
+    requires { i + 4 ≤ length bytes.now }
+    ensures { result ≡ word_at bytes.now i }
+{
+    u32::from_be_bytes([bytes[i], bytes[i + 1], bytes[i + 2], bytes[i + 3]])
+}
+
+#[inline(always)]
+fn two_words(bytes: &[u8], i: usize) -> u64
+    requires { i + 8 ≤ length bytes.now }
+    ensures { result ≡ word_at bytes.now i * 2 ^ 32 + word_at bytes.now (i + 4) }
+{
+    u64::from_be_bytes([
+        bytes[i],
+        bytes[i + 1],
+        bytes[i + 2],
+        bytes[i + 3],
+        bytes[i + 4],
+        bytes[i + 5],
+        bytes[i + 6],
+        bytes[i + 7],
+    ])
+}
+
+/// The state that a block is.
+#[inline(always)]
+pub fn load(block: &[u8]) -> [u32; 4]
+    requires { length block.now ≡ 16 }
+    ensures { state_of result ≡ block.now }
+{
+    let last = two_words(block, 8);
+    [
+        word(block, 0),
+        word(block, 4),
+        (last / 0x1_0000_0000) as u32,
+        (last % 0x1_0000_0000) as u32,
+    ]
+}
+
+#[inline(always)]
+fn word_bytes(w: u32) -> [u8; 4]
+    ensures { result ≡ to_be_bytes w32 w }
+{
+    w.swap_bytes().to_le_bytes()
+}
+
+#[inline(always)]
+fn two_words_bytes(v: u32, w: u32) -> [u8; 8]
+    ensures { result ≡ to_be_bytes w32 v ++ to_be_bytes w32 w }
+{
+    (v as u64 * 0x1_0000_0000 + w as u64)
+        .swap_bytes()
+        .to_le_bytes()
+}
+
+/// The block that a state is.
+#[inline(always)]
+pub fn store(s: [u32; 4]) -> [u8; 16]
+    ensures { result ≡ state_of s }
+{
+    let [s0, s1, s2, s3] = s;
+    let [x0, x1, x2, x3] = word_bytes(s0);
+    let [x4, x5, x6, x7] = word_bytes(s1);
+    let [x8, x9, x10, x11, x12, x13, x14, x15] = two_words_bytes(s2, s3);
+    [
+        x0, x1, x2, x3, x4, x5, x6, x7, x8, x9, x10, x11, x12, x13, x14, x15,
+    ]
+}
+
+/// The sum of two states.
+#[inline(always)]
+pub fn add(s: [u32; 4], k: [u32; 4]) -> [u32; 4]
+    ensures { state_of result ≡ add (state_of s) (state_of k) }
+{
+    [s[0] ^ k[0], s[1] ^ k[1], s[2] ^ k[2], s[3] ^ k[3]]
+}
