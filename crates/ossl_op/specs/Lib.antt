@@ -1,0 +1,5 @@
+-- What the contracts of the crate cite.
+pub mod Tables
+pub mod Begins
+pub mod Standard
+pub mod Laws

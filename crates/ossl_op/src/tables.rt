@@ -1,0 +1,98 @@
+//! What a code stands for in the crates of its algorithm, and what it takes.
+
+ghost use Rattle.std.specs.Prelude.{◌≡◌};
+ghost use Rattle.std.specs.Option.{option_and_then};
+ghost use Rattle.ossl_op.specs.Tables.{cbc_bits, hash_of, key_len, takes_inner, takes_iv, takes_key};
+
+use ossl_codes::{AesMode, Bits, Code};
+use ossl_digests::Hash;
+
+// The hash that a code stands for, where it is a digest.
+pub(crate) fn hash_of(code: Code) -> Option<Hash>
+    ensures { result ≡ hash_of code }
+{
+    match code {
+        Code::Sha1 => Some(Hash::Sha1),
+        Code::Sha224 => Some(Hash::Sha224),
+        Code::Sha256 => Some(Hash::Sha256),
+        Code::Sha384 => Some(Hash::Sha384),
+        Code::Sha512 => Some(Hash::Sha512),
+        Code::Sha512t224 => Some(Hash::Sha512t224),
+        Code::Sha512t256 => Some(Hash::Sha512t256),
+        Code::Md5 => Some(Hash::Md5),
+        Code::Md4 => Some(Hash::Md4),
+        Code::Aes { .. } | Code::ChaCha20 | Code::Rc4 | Code::Hmac | Code::Cmac | Code::Hkdf =>
+            None,
+    }
+}
+
+// The hash that HMAC or HKDF runs on.
+pub(crate) fn inner_hash(inner: Option<Code>) -> Option<Hash>
+    ensures { result ≡ option_and_then hash_of inner }
+{
+    hash_of(inner?)
+}
+
+// The key length of the cipher that CMAC runs on.
+fn inner_bits(inner: Option<Code>) -> Option<Bits>
+    ensures { result ≡ option_and_then cbc_bits inner }
+{
+    match inner {
+        Some(
+            Code::Aes {
+                bits,
+                mode: AesMode::Cbc,
+            },
+        ) => Some(bits),
+        _ => None,
+    }
+}
+
+// A key's length in bytes.
+fn key_len(bits: Bits) -> u64
+    ensures { result ≡ key_len bits }
+{
+    match bits {
+        Bits::B128 => 16,
+        Bits::B192 => 24,
+        Bits::B256 => 32,
+    }
+}
+
+pub(crate) fn takes_inner(code: Code, inner: Option<Code>) -> bool
+    ensures { result ≡ takes_inner code inner }
+{
+    match code {
+        Code::Hmac | Code::Hkdf => inner_hash(inner).is_some(),
+        Code::Cmac => inner_bits(inner).is_some(),
+        _ => true,
+    }
+}
+
+pub(crate) fn takes_key(code: Code, inner: Option<Code>, bytes: u64) -> bool
+    ensures { result ≡ takes_key code inner bytes }
+{
+    match code {
+        Code::Aes { bits, .. } => bytes == key_len(bits),
+        Code::Cmac => match inner_bits(inner) {
+            Some(bits) => bytes == key_len(bits),
+            None => true,
+        },
+        Code::ChaCha20 => bytes == 32,
+        Code::Rc4 => 1 <= bytes && bytes <= 256,
+        _ => true,
+    }
+}
+
+pub(crate) fn takes_iv(code: Code, bytes: u64) -> bool
+    ensures { result ≡ takes_iv code bytes }
+{
+    match code {
+        Code::Aes {
+            mode: AesMode::Ecb,
+            ..
+        } => true,
+        Code::Aes { .. } | Code::ChaCha20 => bytes == 16,
+        _ => true,
+    }
+}
