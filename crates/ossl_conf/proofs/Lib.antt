@@ -1,0 +1,5 @@
+pub mod Examples
+mod LineRows
+mod ValueRows
+mod SettingRows
+mod WholeRows
