@@ -66,7 +66,7 @@ impl<const NK: usize, const WORDS: usize> Block for Aes<NK, WORDS> {
 
     ghost dec = { λ a block. inv_cipher a (NK + 6) block };
 
-    #[inline]
+    #[inline(always)]
     fn encrypt(&self, block: [u8; 16]) -> [u8; 16] {
         let mut s = add(load(&block), round_key(&self.words, 0));
         'round: for n in 1..NK + 6 {
@@ -76,7 +76,7 @@ impl<const NK: usize, const WORDS: usize> Block for Aes<NK, WORDS> {
         store(enc_last(s, round_key(&self.words, NK + 6)))
     }
 
-    #[inline]
+    #[inline(always)]
     fn decrypt(&self, block: [u8; 16]) -> [u8; 16] {
         let mut s = add(load(&block), round_key(&self.words, NK + 6));
         'round: for n in 1..NK + 6 {

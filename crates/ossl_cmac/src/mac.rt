@@ -9,18 +9,16 @@ use crate::subkeys::{completed_block, next_subkey};
 use ossl_aes::{Block, xor_blocks};
 
 // The chain over whole blocks, begun with the value.
-fn chained<C: Block>(cipher: &C, value: [u8; 16], bytes: &[u8]) -> [u8; 16]
+fn chain_blocks<C: Block>(cipher: &C, value: &mut [u8; 16], bytes: &[u8])
     requires { length bytes.now % 16 ≡ 0 }
-    ensures { result ≡ chained (C.enc cipher.now) (length bytes.now / 16) value bytes.now }
+    ensures { value.new ≡ chained (C.enc cipher.now) (length bytes.now / 16) value.old bytes.now }
 {
-    let mut chain = value;
     'block: for i in 0..bytes.len() / 16 {
         let mut block = [0; 16];
         block.copy_from_slice(&bytes[16 * i..16 * i + 16]);
-        let next = cipher.encrypt(xor_blocks(block, chain));
-        chain = next;
+        let next = cipher.encrypt(xor_blocks(block, *value));
+        *value = next;
     }
-    chain
 }
 
 impl<C: Block> Cmac<C> {
@@ -63,7 +61,7 @@ impl<C: Block> Cmac<C> {
         ensures empty { self.new.count ≡ 0 }
         ensures code { (rest : List ℕ) → 0 < length rest → mac_of self.old (bytes.now ++ rest) ≡ mac_of self.new rest }
     {
-        self.value = chained(&self.cipher, self.value, bytes);
+        chain_blocks(&self.cipher, &mut self.value, bytes);
     }
 
     // Chains the held block, where it is whole and more bytes come.

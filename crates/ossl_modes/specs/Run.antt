@@ -1,9 +1,9 @@
 -- A text on its way through a mode: what the mode gives yet, and how a run ends.
-use Rattle.std.specs.Prelude.{ℕ, ◌-◌, ◌≡◌, List, [], ◌++◌, take, drop, nat_le, nat_eq, ◌&&◌, slice_index, if◌then◌else◌, Result, Ok, Err}
+use Rattle.std.specs.Prelude.{ℕ, ◌-◌, ◌≡◌, List, ◌++◌, take, drop, nat_le, nat_eq, ◌&&◌, slice_index, if◌then◌else◌, Result, Ok, Err}
 use Rattle.std.specs.List.{list_all}
 use Rattle.ossl_aes.specs.declared.block.Block.{Ghosts}
 use Rattle.ossl_modes.specs.declared.kinds.FinishRefused.{FinishRefused}
-use Rattle.ossl_modes.specs.declared.kinds.FinishRefused.TheVariants.{WrongFinalBlock, BadDecrypt, StreamEnd, NoMemory}
+use Rattle.ossl_modes.specs.declared.kinds.FinishRefused.TheVariants.{BadDecrypt, NoMemory}
 use Rattle.ossl_modes.specs.declared.state.Mode.{Mode}
 use Rattle.ossl_modes.specs.Modes.{before, outcome, whole_blocks}
 

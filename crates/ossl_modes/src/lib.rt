@@ -8,6 +8,7 @@ mod kinds;
 mod mode;
 mod padding;
 mod state;
+mod step;
 #[cfg(test)]
 mod tests;
 

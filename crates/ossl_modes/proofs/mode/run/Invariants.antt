@@ -1,4 +1,4 @@
-use Rattle.std.proofs.Common.{◌≡◌, ℕ, List, ◌++◌, map, drop}
+use Rattle.std.proofs.Common.{◌≡◌, ◌++◌, map, drop}
 use Rattle.std.specs.List.{concat}
 use Rattle.ossl_modes.specs.Modes.{before, outcome, whole_blocks}
 use Rattle.ossl_modes.specs.Run.{outcome_of, whole_blocks_of}

@@ -1,4 +1,4 @@
-use Rattle.std.proofs.Common.{◌≡◌, ℕ, List, ◌+◌, ◌-◌, ◌∷◌, ◌++◌, [], length, take, replicate, arith, rules, ap, ◌∙◌, sym, append_assoc}
+use Rattle.std.proofs.Common.{◌≡◌, ℕ, List, ◌+◌, ◌-◌, ◌∷◌, ◌++◌, [], take, replicate, arith, rules, ap, ◌∙◌, append_assoc}
 use Rattle.std.proofs.lemmas.List.{take_more_set, replicate_more}
 use Rattle.ossl_modes.proofs.padding.padded_block.Goals as goal
 

@@ -1,4 +1,4 @@
-use Rattle.std.proofs.Common.{◌≡◌, ℕ, ◌-◌, ◌++◌, length, take, replicate}
+use Rattle.std.proofs.Common.{◌≡◌, ◌-◌, ◌++◌, length, take, replicate}
 use Rattle.ossl_modes.proofs.padding.padded_block.Given as goal
 
 abbrev pub invariant-loop-i : goal.invariant-loop-i

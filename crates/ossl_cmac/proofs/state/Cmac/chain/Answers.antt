@@ -6,4 +6,4 @@ pub returns-clause-code : goal.returns-clause-code
 returns-clause-code g c = λ rest some.
     let m = c.args.self.now in
     let bytes = c.args.bytes.now in
-    chained_held (g.C.Block.enc m.cipher) (length bytes / 16) m.value m.held bytes rest _ m.count (omega arith) (omega arith) some c.chained-self.ensures
+    chained_held (g.C.Block.enc m.cipher) (length bytes / 16) m.value m.held bytes rest _ m.count (omega arith) (omega arith) some c.chain_blocks.ensures

@@ -1,4 +1,4 @@
-use Rattle.std.proofs.Common.{◌≡◌, ℕ, ◌+◌, ◌-◌, ◌*◌, ◌/◌, ◌<◌, List, ◌++◌, length, length-append, take, drop, arith, ap, ◌∙◌}
+use Rattle.std.proofs.Common.{ℕ, ◌-◌, ◌*◌, ◌/◌, ◌<◌, List, ◌++◌, length, length-append, take, drop, arith, ap, ◌∙◌}
 use Rattle.ossl_cmac.specs.Run.{mac_of}
 use Rattle.ossl_aes.proofs.Lists.{split, length-rest}
 use Rattle.ossl_cmac.proofs.state.Cmac.feed.Goals as goal

@@ -1,4 +1,4 @@
-use Rattle.std.proofs.Common.{arith, rules, ◌∙◌, ap}
+use Rattle.std.proofs.Common.{arith, ◌∙◌, ap}
 use Rattle.ossl_cmac.specs.Cmac.{next_subkey}
 use Rattle.ossl_cmac.proofs.Steps.{ends_whole, ends_short}
 use Rattle.ossl_cmac.proofs.state.Cmac.finish.Goals as goal

@@ -1,4 +1,4 @@
-use Rattle.std.proofs.Common.{◌≡◌, ℕ, ◌+◌, ◌-◌, ◌*◌, ◌/◌, ◌<◌, List, ◌++◌, length, length-append, take, drop, arith, ap, sym, ◌∙◌}
+use Rattle.std.proofs.Common.{ℕ, ◌-◌, ◌*◌, ◌/◌, ◌<◌, List, ◌++◌, length, length-append, take, drop, arith, ap, sym, ◌∙◌}
 use Rattle.ossl_modes.specs.Modes.{before}
 use Rattle.ossl_modes.specs.Run.{outcome_of, whole_blocks_of}
 use Rattle.ossl_aes.proofs.Lists.{split, length-rest}

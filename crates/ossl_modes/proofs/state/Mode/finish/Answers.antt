@@ -1,5 +1,4 @@
-use Rattle.std.proofs.Common.{◌≡◌, ℕ, List, [], ◌++◌, take, rules, arith, refl}
-use Rattle.ossl_modes.specs.Run.{outcome_of, Finishes}
+use Rattle.std.proofs.Common.{arith, refl}
 use Rattle.ossl_modes.proofs.Steps.{not_stream, checked_end, wrong_end}
 use Rattle.ossl_modes.proofs.state.Mode.finish.Goals as goal
 

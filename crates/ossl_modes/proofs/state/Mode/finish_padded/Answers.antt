@@ -1,4 +1,4 @@
-use Rattle.std.proofs.Common.{◌≡◌, arith, rules, ◌∙◌}
+use Rattle.std.proofs.Common.{arith, ◌∙◌}
 use Rattle.ossl_modes.proofs.Steps.{padded_full, padded_short}
 use Rattle.ossl_modes.proofs.state.Mode.finish_padded.Goals as goal
 

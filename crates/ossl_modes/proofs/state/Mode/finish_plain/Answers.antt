@@ -1,4 +1,4 @@
-use Rattle.std.proofs.Common.{arith, rules}
+use Rattle.std.proofs.Common.{arith}
 use Rattle.ossl_modes.proofs.Steps.{rest_is}
 use Rattle.ossl_modes.proofs.state.Mode.finish_plain.Goals as goal
 

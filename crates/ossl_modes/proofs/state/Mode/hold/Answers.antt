@@ -1,4 +1,4 @@
-use Rattle.std.proofs.Common.{◌≡◌, ℕ, List, ◌+◌, ◌<◌, ◌∷◌, ◌++◌, drop, length, slice_index, arith, ap, ◌∙◌}
+use Rattle.std.proofs.Common.{ℕ, List, ◌+◌, ◌++◌, drop, arith, ap, ◌∙◌}
 use Rattle.std.proofs.lemmas.List.{drop_all}
 use Rattle.ossl_aes.proofs.Lists.{drop_more}
 use Rattle.ossl_modes.specs.Run.{outcome_of, whole_blocks_of}
