@@ -1,6 +1,6 @@
 -- What is up once a library context has changed, and when a box may be started in one.
 use Rattle.std.proofs.Common.{◌≡◌, ℕ, ◌<◌, Bool, true, false, not, ◌||◌, ◌&&◌, nat_eq, List, [], ◌∷◌, length, map, refl, sym, ◌∙◌, arith, inl, inr}
-use Rattle.std.specs.List.{list_any, list_all, find}
+use Rattle.std.specs.List.{list_any, list_all, filter, find}
 use Rattle.std.specs.Prelude.{None, Some}
 use Rattle.std.specs.declared.option.Option.{Option}
 use Rattle.std.specs.Option.{option_map}
@@ -17,7 +17,7 @@ use Rattle.ossl_calls.specs.declared.state.State.{State}
 use Rattle.ossl_calls.specs.Sound.{is_paired, number_of_born}
 use Rattle.ossl_calls.specs.State.{no_lib, lib_at, with_lib, is_active, is_active_box, is_held, is_up, is_of_box, up_in}
 use Rattle.ossl_calls.specs.Step.{held_instance, with_active}
-use Rattle.ossl_calls.proofs.ListLaws.{IsAmong, any_witness, any_both, find_none, find_some, filters_empty}
+use Rattle.ossl_calls.proofs.ListLaws.{IsAmong, any_fewer, any_witness, any_both, find_none, find_some, filters_empty}
 
 -- one library context replaced
 module _ (s : State) (l : ℕ) (lib : LibCtx) (within : l < length s.libs) where
@@ -49,6 +49,19 @@ module _ (s : State) (l : ℕ) (lib : LibCtx) (within : l < length s.libs) where
         rw held (grind (arith, common_steps))
     | inr other ↦ (rw (lib_at-other b.lib other) at up)
   ]
+
+  -- with some of the order's pairs, nothing more is up
+  pub up_after_settling : (stays : Active → Bool) → lib.order ≡ filter stays (lib_at s l).order → (b : Born) → is_up (with_lib s l lib) b ≡ true → is_up s b ≡ true
+  up_after_settling stays fewer b up = elim (cases_eq b.lib l) [
+    | inl here ↦
+        let up_here : (is_active b.number (filter stays (lib_at s l).order) || is_held b.number s.live) ≡ true = (rw (here, lib_at-same, fewer) at up) in
+        rw here (either _ _ _ (any_fewer (λ (a : Active). nat_eq a.instance b.number) stays (lib_at s l).order) up_here)
+    | inr other ↦ (rw (lib_at-other b.lib other) at up)
+  ]
+    where
+      either : (a a' h : Bool) → (a ≡ true → a' ≡ true) → (a || h) ≡ true → (a' || h) ≡ true
+      either true a' h f up = rw (f refl) refl
+      either false a' h f up = rw up (grind (arith, common_steps))
 
 -- the pair of a box and an instance at the end of an order
 module _ (s : State) (l k n : ℕ) (within : l < length s.libs) where

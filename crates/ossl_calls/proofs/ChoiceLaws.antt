@@ -134,6 +134,10 @@ element_held s t n h = found (element_of s t) refl h
     found None is held = absurd (true≢false (sym held))
     found (Some x) is held = (find_some (is_named t) s.live x is).1 (λ y. is_in n y.held) held
 
+-- what a live element holds is up
+pub element_up : (s : State) (t : ℕ) (x : Live) → element_of s t ≡ Some x → (b : Born) → is_in b.number x.held ≡ true → is_up s b ≡ true
+element_up s t x found b held = rw ((find_some (is_named t) s.live x found).1 (λ y. is_in b.number y.held) held) (grind (arith, common_steps))
+
 -- an operation context holds what was held
 pub context_up : (s : State) (c h : ℕ) (inner : Option ℕ) (m : Live) → element_of s h ≡ Some m → (b : Born) → is_in b.number (new_context s c inner m).held ≡ true → is_up s b ≡ true
 context_up s c h inner m found b held = rw (of_parts (cases_Bool (is_in b.number m.held))) (grind (arith, common_steps))

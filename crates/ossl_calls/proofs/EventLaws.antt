@@ -16,7 +16,7 @@ use Rattle.ossl_calls.specs.declared.call.Call.{Call}
 use Rattle.ossl_calls.specs.declared.call.Reply.{Reply}
 use Rattle.ossl_calls.specs.declared.state.Born.{Born}
 use Rattle.ossl_calls.specs.declared.state.Going.{Going}
-use Rattle.ossl_calls.specs.declared.state.Going.TheVariants.{Element, Library}
+use Rattle.ossl_calls.specs.declared.state.Going.TheVariants.{Element, Activation, Nothing, Library}
 use Rattle.ossl_calls.specs.declared.state.State.{State}
 use Rattle.ossl_calls.specs.Boxes.{sheet_of, facts_at, no_sheet}
 use Rattle.ossl_calls.specs.Events.{Keeps, Takes, Refuses, Bears}
@@ -65,10 +65,14 @@ module _ (fixed : Fixed) (sheets : List Sheet) (state : State) (entries : List (
 
   starts_at-without : (going : Going) (k : ℕ) → starts_at state k ≡ starts_at (without_going state going) k
   starts_at-without (Element t) k = refl
+  starts_at-without (Activation l t kept) k = refl
+  starts_at-without Nothing k = refl
   starts_at-without (Library l) k = refl
 
   next-without : (going : Going) (k : ℕ) → up_at (with_next (without_going state going)) k ≡ up_at (without_going state going) k
   next-without (Element t) k = refl
+  next-without (Activation l t kept) k = refl
+  next-without Nothing k = refl
   next-without (Library l) k = refl
 
   -- an entry by which something goes

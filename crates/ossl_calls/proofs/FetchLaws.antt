@@ -22,13 +22,13 @@ use Rattle.ossl_calls.specs.declared.state.Choice.{Choice}
 use Rattle.ossl_calls.specs.declared.state.Live.{Live}
 use Rattle.ossl_calls.specs.declared.state.State.{State}
 use Rattle.ossl_calls.specs.Best.{best_method}
-use Rattle.ossl_calls.specs.Boxes.{facts_at, default_name}
+use Rattle.ossl_calls.specs.Boxes.{facts_at, place_of, default_name}
 use Rattle.ossl_calls.specs.Events.{Keeps, Bears, Refuses, context_made, needs_birth}
 use Rattle.ossl_calls.specs.History.{Fixed, IsAllowed, IsStep}
 use Rattle.ossl_calls.specs.Registry.{are_apart}
 use Rattle.ossl_calls.specs.Sound.{HasSoundInstances, giving_back}
 use Rattle.ossl_calls.specs.State.{lib_at, with_lib, is_active_box, up_in, up_instances}
-use Rattle.ossl_calls.specs.Step.{after_activation, after_fallback, element_of, new_context, with_element, fallback_of, fetched_of, defaulted_of, with_default, grouped_of, offer_of, held_instance, new_instance, new_method, used_of, joined_of, with_active, with_born, with_fallback_used, with_method}
+use Rattle.ossl_calls.specs.Step.{after_activation, after_fallback, element_of, new_context, with_element, fallback_of, fetched_of, defaulted_of, with_default, grouped_of, left_by, offer_of, held_instance, new_instance, new_method, used_of, joined_of, with_active, with_born, with_fallback_used, with_method}
 use Rattle.ossl_calls.specs.Tokens.{entries_of}
 use Rattle.ossl_calls.proofs.ActiveLaws.{held_is, nothing_up}
 use Rattle.ossl_calls.proofs.ChoiceLaws.{method_up, context_up}
@@ -41,7 +41,7 @@ module _ (fixed : Fixed) (s : State) (l : ℕ) (sound : HasSoundInstances fixed 
   here = omega (arith, within, sound.contexts)
 
   -- an activation that starts nothing
-  activation-keeps : (k : ℕ) → (is_active_box k (lib_at s l).order ≡ true) ⊎ ((i : ℕ) × (is_active_box k (lib_at s l).order ≡ false) × (held_instance s l k ≡ Some i)) →
+  pub activation-keeps : (k : ℕ) → (is_active_box k (lib_at s l).order ≡ true) ⊎ ((i : ℕ) × (is_active_box k (lib_at s l).order ≡ false) × (held_instance s l k ≡ Some i)) →
       let a = after_activation fixed.facts s l k in (a.born ≡ s.born) × (up_instances a ≡ up_instances s) × (length a.libs ≡ length s.libs)
   activation-keeps k (inl active) = rw active (refl, refl, refl)
   activation-keeps k (inr (i, absent, found)) =
@@ -55,10 +55,10 @@ module _ (fixed : Fixed) (s : State) (l : ℕ) (sound : HasSoundInstances fixed 
       let kept = activation-keeps k why in
       (kept.0, up_instances-order a l (used_of (lib_at a l)) (omega (arith, here, kept.2)) refl ∙ kept.1)
 
-  -- a fallback that starts the box
-  pub fallback-bears : (k : ℕ) → is_active_box k (lib_at s l).order ≡ false → held_instance s l k ≡ None →
-      let f = with_fallback_used (after_activation fixed.facts s l k) l in let b = new_instance fixed.facts s l k in (f.born ≡ s.born ++ b ∷ []) × (up_instances f ≡ up_instances s ++ b ∷ [])
-  fallback-bears k absent none =
+  -- an activation that starts the box
+  pub activation-bears : (k : ℕ) → is_active_box k (lib_at s l).order ≡ false → held_instance s l k ≡ None →
+      let a = after_activation fixed.facts s l k in let b = new_instance fixed.facts s l k in (a.born ≡ s.born ++ b ∷ []) × (up_instances a ≡ up_instances s ++ b ∷ []) × (length a.libs ≡ length s.libs)
+  activation-bears k absent none =
       let b = new_instance fixed.facts s l k in
       let lib = grouped_of (lib_at s l) (offer_of fixed.facts s l k).groups in
       let g = with_lib s l lib in
@@ -68,9 +68,17 @@ module _ (fixed : Fixed) (s : State) (l : ℕ) (sound : HasSoundInstances fixed 
       let alike : up_instances g ≡ up_instances s = up_instances-order s l lib here refl in
       rw is (
         refl,
-        up_instances-order a l (used_of (lib_at a l)) (omega (arith, inside, length-set g.libs l (joined_of (lib_at g l) k s.next))) refl
-            ∙ up_instances-born g l k b inside refl refl sound.below ∙ ap (λ bs. bs ++ b ∷ []) alike,
+        up_instances-born g l k b inside refl refl sound.below ∙ ap (λ bs. bs ++ b ∷ []) alike,
+        length-set g.libs l (joined_of (lib_at g l) k s.next) ∙ length-set s.libs l lib,
       )
+
+  -- a fallback that starts the box
+  pub fallback-bears : (k : ℕ) → is_active_box k (lib_at s l).order ≡ false → held_instance s l k ≡ None →
+      let f = with_fallback_used (after_activation fixed.facts s l k) l in let b = new_instance fixed.facts s l k in (f.born ≡ s.born ++ b ∷ []) × (up_instances f ≡ up_instances s ++ b ∷ [])
+  fallback-bears k absent none =
+      let a = after_activation fixed.facts s l k in
+      let bears = activation-bears k absent none in
+      (bears.0, up_instances-order a l (used_of (lib_at a l)) (omega (arith, here, bears.2)) refl ∙ bears.1)
 
   -- a box that needs a start has no instance that is up
   pub start-alone : (k : ℕ) → is_active_box k (lib_at s l).order ≡ false → held_instance s l k ≡ None → up_in s l k ≡ []
@@ -143,18 +151,23 @@ apart_at (f ∷ facts) (suc j) (suc k) apart in_j in_k differ same =
     let parts = and_parts (not (list_any (λ f'. bytes_eq f'.name f.name) facts)) (are_apart facts) apart in
     apart_at facts j k parts.1 (omega arith) (omega arith) (λ q. differ (ap (λ n. suc n) q)) same
 
--- a refused start is one of the box `default` alone
+-- a refused start is one of the box of that name alone
+pub box-refuses : (facts : List Facts) (s : State) (c : ℕ) (call : Call) (name : List ℕ) (k : ℕ) → left_by facts s c call (StartRefused name) ≡ s → are_apart facts ≡ true → place_of name facts ≡ Some k →
+    Refuses facts s (record { caller = c; call = call; reply = StartRefused name }) k
+box-refuses facts s c call name k leaves apart found =
+    let at_k = position-Some (λ f. bytes_eq f.name name) facts k (facts_at [] 0) found in
+    let same : (facts_at facts k).name ≡ name = names-same (facts_at facts k).name name at_k.1 in
+    record {
+      leaves = leaves;
+      here = names-equal name (facts_at facts k).name (sym same);
+      others = λ j below differ. false_from_ne_true (bytes_eq name (facts_at facts j).name) (λ e.
+          apart_at facts j k apart below at_k.0 differ (sym (names-same name (facts_at facts j).name e) ∙ sym same));
+    }
+
+-- a refused start of a fetch is one of the box `default` alone
 pub refused-refuses : (facts : List Facts) (s : State) (c l : ℕ) (op : Operation) (name : List ℕ) (query : List Clause) (k : ℕ) → are_apart facts ≡ true → fallback_of facts (lib_at s l) ≡ Some k →
     Refuses facts s (record { caller = c; call = Fetch l op name query; reply = StartRefused default_name }) k
-refused-refuses facts s c l op name query k apart found =
-    let at_k = position-Some (λ f. bytes_eq f.name default_name) facts k (facts_at [] 0) (fallback_found facts (lib_at s l) k found).1 in
-    let same : (facts_at facts k).name ≡ default_name = names-same (facts_at facts k).name default_name at_k.1 in
-    record {
-      leaves = refl;
-      here = names-equal default_name (facts_at facts k).name (sym same);
-      others = λ j below differ. false_from_ne_true (bytes_eq default_name (facts_at facts j).name) (λ e.
-          apart_at facts j k apart below at_k.0 differ (sym (names-same default_name (facts_at facts j).name e) ∙ sym same));
-    }
+refused-refuses facts s c l op name query k apart found = box-refuses facts s c (Fetch l op name query) default_name k refl apart (fallback_found facts (lib_at s l) k found).1
 
 -- a default query that is set
 pub default-keeps : (facts : List Facts) (s : State) (c l : ℕ) (query : List Clause) → l < length s.libs →
@@ -216,13 +229,13 @@ not-true false e = refl
 not-true true e = absurd (true≢false (sym e))
 
 -- why a box is started
-needs-start : (s : State) (l k : ℕ) → needs_birth s l k ≡ true → (is_active_box k (lib_at s l).order ≡ false) × (held_instance s l k ≡ None)
+pub needs-start : (s : State) (l k : ℕ) → needs_birth s l k ≡ true → (is_active_box k (lib_at s l).order ≡ false) × (held_instance s l k ≡ None)
 needs-start s l k needs =
     let parts = and_parts (not (is_active_box k (lib_at s l).order)) (is_none (held_instance s l k)) needs in
     (not-true _ parts.0, none-is _ parts.1)
 
 -- why it is not
-needs-none : (s : State) (l k : ℕ) → needs_birth s l k ≡ false → (is_active_box k (lib_at s l).order ≡ true) ⊎ ((i : ℕ) × (is_active_box k (lib_at s l).order ≡ false) × (held_instance s l k ≡ Some i))
+pub needs-none : (s : State) (l k : ℕ) → needs_birth s l k ≡ false → (is_active_box k (lib_at s l).order ≡ true) ⊎ ((i : ℕ) × (is_active_box k (lib_at s l).order ≡ false) × (held_instance s l k ≡ Some i))
 needs-none s l k none = elim (cases_Bool (is_active_box k (lib_at s l).order)) [
   | inl active ↦ inl active
   | inr absent ↦ inr (of_held absent (held_instance s l k) refl (rw absent at none))

@@ -1,5 +1,5 @@
 -- Histories with one more entry.
-use Rattle.std.proofs.Common.{◌≡◌, ℕ, ◌+◌, List, [], ◌∷◌, ◌++◌, length, refl, ◌∙◌, arith, append_assoc, inl, inr}
+use Rattle.std.proofs.Common.{◌≡◌, ℕ, ◌+◌, Bool, List, [], ◌∷◌, ◌++◌, length, refl, ◌∙◌, arith, append_assoc, inl, inr}
 use Rattle.std.specs.Prelude.{if◌then◌else◌, None, Some}
 use Rattle.std.specs.declared.option.Option.{Option}
 use Rattle.std.proofs.lemmas.Bool.{cases_Bool}
@@ -8,16 +8,17 @@ use Rattle.std.proofs.lemmas.List.{append-nil}
 use Rattle.ossl_base.specs.declared.entry.Entry.{Entry}
 use Rattle.ossl_provider.specs.Sheet.{Facts}
 use Rattle.ossl_calls.specs.declared.call.Call.{Call}
-use Rattle.ossl_calls.specs.declared.call.Call.TheVariants.{SetDefault, Fetch, NewCtx, Free, FreeCtx, CloseLib}
+use Rattle.ossl_calls.specs.declared.call.Call.TheVariants.{Load, Unload, SetDefault, Fetch, UpRef, Free, NewCtx, FreeCtx, CloseLib}
 use Rattle.ossl_calls.specs.declared.call.Reply.{Reply}
-use Rattle.ossl_calls.specs.declared.call.Reply.TheVariants.{Fetched, Made, Done, Unsupported}
+use Rattle.ossl_calls.specs.declared.call.Reply.TheVariants.{Loaded, Fetched, Made, Done, Unsupported}
 use Rattle.ossl_calls.specs.declared.state.Choice.{Choice}
 use Rattle.ossl_calls.specs.declared.state.Live.{Live}
 use Rattle.ossl_calls.specs.declared.state.State.{State}
 use Rattle.ossl_calls.specs.Best.{best_method}
+use Rattle.ossl_calls.specs.Boxes.{place_of}
 use Rattle.ossl_calls.specs.History.{Fixed, IsStep, IsRun, IsLegal, IsNext, after_entry, state_from, state_after, says_refused, refusals}
 use Rattle.ossl_calls.specs.State.{lib_at, is_active_box, opening_state}
-use Rattle.ossl_calls.specs.Step.{held_instance, with_instance, after_activation, fallback_of, after_fallback_to, after_fallback, with_method, with_context, element_of, left_by}
+use Rattle.ossl_calls.specs.Step.{held_instance, with_instance, after_activation, fallback_of, after_fallback_to, after_fallback, after_load, after_unload, holder_of, with_method, with_second, with_context, element_of, left_by}
 
 pub state_from-push : (facts : List Facts) (s : State) (es : List (Entry Call Reply)) (e : Entry Call Reply) →
     state_from facts s (es ++ e ∷ []) ≡ after_entry facts (state_from facts s es) e
@@ -74,6 +75,20 @@ after_fallback-live facts s l = to (fallback_of facts (lib_at s l))
     to None = (refl, refl)
     to (Some k) = after_activation-live facts s l k
 
+-- so does a load
+pub after_load-live : (facts : List Facts) (s : State) (c l : ℕ) (retain : Bool) (o : Option ℕ) → ((after_load facts s c l retain o).live ≡ s.live) × ((after_load facts s c l retain o).next ≡ s.next)
+after_load-live facts s c l retain None = (refl, refl)
+after_load-live facts s c l retain (Some k) = after_activation-live facts s l k
+
+-- and an activation that is given back
+pub after_unload-live : (facts : List Facts) (s : State) (t : ℕ) (o : Option ℕ) → ((after_unload facts s t o).live ≡ s.live) × ((after_unload facts s t o).next ≡ s.next)
+after_unload-live facts s t None = (refl, refl)
+after_unload-live facts s t (Some l) = (refl, refl)
+
+with_second-next : (s : State) (c : ℕ) (o : Option Live) → (with_second s c o).next ≡ s.next
+with_second-next s c None = refl
+with_second-next s c (Some x) = refl
+
 pub with_method-next : (s : State) (c : ℕ) (o : Option Choice) → (with_method s c o).next ≡ s.next
 with_method-next s c None = refl
 with_method-next s c (Some chosen) = refl
@@ -84,6 +99,9 @@ with_context-next s c inner (Some m) = refl
 
 -- no call changes the number of the next entry but by one
 pub left_by-next : (facts : List Facts) (s : State) (c : ℕ) (call : Call) (reply : Reply) → (left_by facts s c call reply).next ≡ s.next
+left_by-next facts s c (Load l name retain) (Loaded n i skipped) = (after_load-live facts s c l retain (place_of name facts)).1
+left_by-next facts s c (Unload t) Done = (after_unload-live facts s t (holder_of s t)).1
+left_by-next facts s c (UpRef h) (Made n) = with_second-next s c (element_of s h)
 left_by-next facts s c (Fetch l op name q) (Fetched n p i r code) =
     with_method-next (after_fallback facts s l) c (best_method (after_fallback facts s l) l op name q) ∙ (after_fallback-live facts s l).1
 left_by-next facts s c (Fetch l op name q) Unsupported = (after_fallback-live facts s l).1

@@ -1,27 +1,50 @@
 -- The state after a legal history is sound.
 use Rattle.std.proofs.Common.{◌≡◌, ℕ, ◌+◌, true, List, [], ◌∷◌, ◌++◌, length, replicate, get_or, refl, sym, ap, subst, arith, append_assoc, suc, zero}
+use Rattle.std.specs.Prelude.{None, Some}
+use Rattle.std.specs.declared.option.Option.{Option}
 use Rattle.std.proofs.lemmas.Bool.{ltb-true, true≢false}
 use Rattle.std.proofs.lemmas.List.{append-nil}
 use Rattle.ossl_base.specs.declared.entry.Entry.{Entry}
 use Rattle.ossl_calls.specs.declared.call.Call.{Call}
-use Rattle.ossl_calls.specs.declared.call.Call.TheVariants.{SetDefault, Fetch, NewCtx, Free, FreeCtx, CloseLib}
+use Rattle.ossl_calls.specs.declared.call.Call.TheVariants.{Load, Unload, SetDefault, Fetch, UpRef, Free, NewCtx, FreeCtx, CloseLib}
 use Rattle.ossl_calls.specs.declared.call.Reply.{Reply}
-use Rattle.ossl_calls.specs.declared.call.Reply.TheVariants.{Fetched, Made, Done, NoLib, StartRefused, Unsupported, NotAdmitted}
+use Rattle.ossl_calls.specs.declared.call.Reply.TheVariants.{Loaded, Fetched, Made, Done, NoLib, NoProvider, StartRefused, Unsupported, NotAdmitted}
+use Rattle.ossl_calls.specs.declared.state.Live.{Live}
 use Rattle.ossl_calls.specs.declared.state.State.{State}
 use Rattle.ossl_calls.specs.Best.{best_method}
+use Rattle.ossl_calls.specs.Boxes.{place_of}
 use Rattle.ossl_calls.specs.History.{Fixed, IsStep, IsRun, IsLegal, after_entry, state_from, state_after}
-use Rattle.ossl_calls.specs.Sound.{IsSound, HasSoundInstances}
-use Rattle.ossl_calls.specs.State.{fresh_lib, no_lib, opening_state}
-use Rattle.ossl_calls.specs.Step.{after_fallback, element_of, left_by, new_context, new_method, with_next, without_element, Answers}
+use Rattle.ossl_calls.specs.Sound.{IsSound, HasSoundInstances, lent_after}
+use Rattle.ossl_calls.specs.State.{fresh_lib, lib_at, no_lib, opening_state}
+use Rattle.ossl_calls.specs.Step.{after_fallback, after_load, after_unload, element_of, holder_of, kept_of, left_by, new_context, new_method, second_method, with_next, with_second, without_element, Answers, IsLoaded}
 use Rattle.ossl_calls.specs.Tokens.{owns, entries_of, names_context}
-use Rattle.ossl_calls.proofs.ChoiceLaws.{method_up, context_up}
+use Rattle.ossl_calls.proofs.ChoiceLaws.{method_up, context_up, element_up}
 use Rattle.ossl_calls.proofs.HistoryLaws.{left_by-next}
-use Rattle.ossl_calls.proofs.SoundLaws.{instances-more, instances-alike, instances-element, instances-without_element, instances-closed, instances-default, instances-fallback}
-use Rattle.ossl_calls.proofs.TokenLaws.{fetched_some, admitted_some, elements_after, owns-push, owned_after}
+use Rattle.ossl_calls.proofs.SoundLaws.{instances-more, instances-alike, instances-element, instances-without_element, instances-closed, instances-default, instances-fallback, instances-load, instances-unloaded, box_placed, holder_there}
+use Rattle.ossl_calls.proofs.TokenLaws.{fetched_some, admitted_some, activations_after, elements_after, lent-push, owns-push, owned_after}
 
 -- the instances and library contexts that a step leaves
 pub instances_after : (fixed : Fixed) (s : State) (c : ℕ) (call : Call) (reply : Reply) → names_context fixed.contexts call ≡ true → Answers fixed.facts s c call reply →
     HasSoundInstances fixed s.next s → HasSoundInstances fixed (s.next + 1) (left_by fixed.facts s c call reply)
+instances_after fixed s c (Load l name retain) NoLib there a h = instances-more fixed s.next s h
+instances_after fixed s c (Load l name retain) NoProvider there a h = instances-more fixed s.next s h
+instances_after fixed s c (Load l name retain) (StartRefused p) there a h = instances-more fixed s.next s h
+instances_after fixed s c (Load l name retain) (Loaded n i skipped) there a h = loaded (place_of name fixed.facts) refl a.1
+  where
+    loaded : (o : Option ℕ) → place_of name fixed.facts ≡ o → IsLoaded fixed.facts s l (Loaded n i skipped) o → HasSoundInstances fixed (s.next + 1) (after_load fixed.facts s c l retain o)
+    loaded None none is = absurd is
+    loaded (Some k) found is = instances-load fixed s c l retain k (ltb-true l fixed.contexts there) (box_placed fixed.facts name k found) h
+instances_after fixed s c (Unload t) NoLib there a h = instances-more fixed s.next s h
+instances_after fixed s c (Unload t) Done there a h = unloaded (holder_of s t) refl
+  where
+    unloaded : (o : Option ℕ) → holder_of s t ≡ o → HasSoundInstances fixed (s.next + 1) (after_unload fixed.facts s t o)
+    unloaded None none = instances-more fixed s.next s h
+    unloaded (Some l) found = instances-unloaded fixed (s.next + 1) s l t (kept_of fixed.facts (lib_at s l)) (holder_there s t l found) (instances-more fixed s.next s h)
+instances_after fixed s c (UpRef t) (Made n) there a h = second (element_of s t) refl
+  where
+    second : (o : Option Live) → element_of s t ≡ o → HasSoundInstances fixed (s.next + 1) (with_second s c o)
+    second None none = instances-more fixed s.next s h
+    second (Some x) found = instances-element fixed (s.next + 1) s (second_method s.next c x) (λ b among held. element_up s t x found b held) (instances-more fixed s.next s h)
 instances_after fixed s c (SetDefault l q) NoLib there a h = instances-more fixed s.next s h
 instances_after fixed s c (SetDefault l q) Done there a h =
     let lib = ltb-true l fixed.contexts there in
@@ -53,14 +76,16 @@ sound_after-entry fixed s past e h step =
     let left = left_by fixed.facts s e.caller e.call e.reply in
     let next : left.next ≡ s.next = left_by-next fixed.facts s e.caller e.call e.reply in
     let sound = instances_after fixed s e.caller e.call e.reply step.allowed.lib step.answers h.instances in
+    let lent = lent-push past e in
     record {
       instances =
           let P : ℕ → Type 0 = λ n. HasSoundInstances fixed n (with_next left) in
           subst P (ap (λ n. n + 1) (sym next)) (instances-alike fixed (s.next + 1) left (with_next left) sound refl refl refl sound.paired);
       elements = rw next (elements_after fixed.facts s e.caller e.call e.reply step.answers h.elements);
+      activations = rw (next, lent) (activations_after fixed.facts s e.caller e.call e.reply (lent_after past) step.answers h.activations);
       owned = λ c t token owned.
-          owned_after fixed.facts s (entries_of e.caller past) e.caller c t token e.call e.reply (owns (entries_of c past) t token)
-          step.answers h.elements step.allowed.tokens (h.owned e.caller) (h.owned c t token) (rw owns-push at owned);
+          rw lent (owned_after fixed.facts s (entries_of e.caller past) e.caller c t token e.call e.reply (owns (entries_of c past) t token) (lent_after past)
+          step.answers h.elements h.activations step.allowed.tokens (h.owned e.caller) (h.owned c t token) (rw owns-push at owned));
     }
 
 sound_from : (fixed : Fixed) (s : State) (past es : List (Entry Call Reply)) → IsSound fixed s past → IsRun fixed s past es → IsSound fixed (state_from fixed.facts s es) (past ++ es)
@@ -91,6 +116,7 @@ sound_opening fixed = record {
     single = λ k. refl;
   };
   elements = record { distinct = refl; below = refl; few = omega arith };
+  activations = record { distinct = refl; below = refl };
   owned = λ c t token owned. absurd (true≢false (sym owned));
 }
 

@@ -11,7 +11,9 @@ pub mod UpLaws
 pub mod GoingLaws
 pub mod RowsLaws
 pub mod EventLaws
-pub mod FetchLaws
 pub mod RoomLaws
+pub mod FetchLaws
+pub mod LoadLaws
 pub mod OpeningLaws
 pub mod WorkedRows
+pub mod WorkedLoads

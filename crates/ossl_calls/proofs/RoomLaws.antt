@@ -1,6 +1,7 @@
 -- How many entries it takes to give everything back.
-use Rattle.std.proofs.Common.{◌≡◌, ℕ, ◌+◌, ◌≤◌, ◌&&◌, nat_eq, cond, List, [], ◌∷◌, length, replicate, get_or, refl, sym, ◌∙◌, ap, arith, zero-add, inl, inr, suc, zero}
+use Rattle.std.proofs.Common.{◌≡◌, ℕ, ◌+◌, ◌≤◌, Bool, true, not, ◌&&◌, nat_eq, cond, List, [], ◌∷◌, ◌++◌, length, replicate, get_or, refl, sym, ◌∙◌, ap, arith, zero-add, inl, inr, suc, zero}
 use Rattle.std.proofs.Math.ListN.{set}
+use Rattle.std.specs.List.{list_any}
 use Rattle.std.specs.Prelude.{None, Some, if◌then◌else◌, IsTrue}
 use Rattle.std.specs.declared.option.Option.{Option}
 use Rattle.std.proofs.lemmas.Bool.{cases_Bool, and_parts}
@@ -10,18 +11,23 @@ use Rattle.ossl_base.specs.declared.entry.Entry.{Entry}
 use Rattle.ossl_provider.specs.Sheet.{Facts}
 use Rattle.ossl_property.specs.declared.clause.Clause.{Clause}
 use Rattle.ossl_calls.specs.declared.call.Call.{Call}
+use Rattle.ossl_calls.specs.declared.call.Call.TheVariants.{Load, Unload}
 use Rattle.ossl_calls.specs.declared.call.Reply.{Reply}
+use Rattle.ossl_calls.specs.declared.call.Reply.TheVariants.{Loaded}
 use Rattle.ossl_calls.specs.declared.state.Choice.{Choice}
 use Rattle.ossl_calls.specs.declared.state.Kind.TheVariants.{Method, Context}
 use Rattle.ossl_calls.specs.declared.state.LibCtx.{LibCtx}
 use Rattle.ossl_calls.specs.declared.state.Live.{Live}
 use Rattle.ossl_calls.specs.declared.state.State.{State}
+use Rattle.ossl_calls.specs.Events.{unloading_from}
+use Rattle.ossl_calls.specs.Going.{answer_of, returned_by, without_going}
 use Rattle.ossl_calls.specs.History.{Fixed}
-use Rattle.ossl_calls.specs.Sound.{IsSound, is_own, open_count, giving_back}
+use Rattle.ossl_calls.specs.Sound.{IsSound, Lent, is_lent_to, is_own, lent_after, lent_by, lent_with, open_count, giving_back}
 use Rattle.ossl_calls.specs.State.{fresh_lib, no_lib, lib_at, is_active_box}
-use Rattle.ossl_calls.specs.Step.{new_method, used_of, defaulted_of, with_default, joined_of, held_instance, is_named, with_instance, with_groups, grouped_of, offer_of, after_activation, with_fallback_used, with_method, without_element}
-use Rattle.ossl_calls.specs.Tokens.{method_token, context_token, owns, entries_of}
-use Rattle.ossl_calls.proofs.ListLaws.{any_more, length-filter_less}
+use Rattle.ossl_calls.specs.Step.{new_method, used_of, defaulted_of, with_default, joined_of, held_instance, is_named, with_instance, with_groups, grouped_of, offer_of, activation_given, after_activation, after_load_of, kept_of, loaded_of, unloaded_of, with_fallback_used, with_method, with_unloaded, without_element}
+use Rattle.ossl_calls.specs.Tokens.{activation_token, method_token, context_token, owns, entries_of}
+use Rattle.ossl_calls.proofs.ListLaws.{any_more, length-filter, length-filter_less}
+use Rattle.ossl_calls.proofs.TokenLaws.{lent-push}
 
 open_count-cons : (x : LibCtx) (libs : List LibCtx) → open_count (x ∷ libs) ≡ (if x.is_open then 1 else 0) + open_count libs
 open_count-cons x libs = sum_by-append (λ (lib : LibCtx). cond lib.is_open 1 0) (x ∷ []) libs ∙ rw zero-add refl
@@ -50,6 +56,48 @@ pub fallback-room : (facts : List Facts) (s : State) (l k : ℕ) → giving_back
 fallback-room facts s l k =
     let a = after_activation facts s l k in
     ap (λ n. length a.live + n) (open_count-set a.libs l (used_of (lib_at a l)) refl) ∙ activation-room facts s l k
+
+-- nor does a load
+pub load-room : (facts : List Facts) (s : State) (c l : ℕ) (retain : Bool) (k : ℕ) → giving_back (after_load_of facts s c l retain k) ≡ giving_back s
+load-room facts s c l retain k =
+    let a = after_activation facts s l k in
+    ap (λ n. length a.live + n) (open_count-set a.libs l (loaded_of retain (activation_given s c k) (lib_at a l)) refl) ∙ activation-room facts s l k
+
+-- nor an activation that is given back
+pub unload-room : (s : State) (l t : ℕ) (kept : Option ℕ) → giving_back (with_unloaded s l t kept) ≡ giving_back s
+unload-room s l t kept = ap (λ n. length s.live + n) (open_count-set s.libs l (unloaded_of kept t (lib_at s l)) refl)
+
+-- what goes where an activation is given back takes its entry alone
+pub going-room : (facts : List Facts) (s : State) (t : ℕ) (o : Option ℕ) → let going = unloading_from facts s t o in giving_back (without_going s going) + 1 ≤ giving_back s + returned_by going
+going-room facts s t None = omega arith
+going-room facts s t (Some l) = omega (arith, unload-room s l t (kept_of facts (lib_at s l)))
+
+-- an entry lends at most what its reply hands out
+pub lent-room : (lent : List Lent) (c : ℕ) (call : Call) (reply : Reply) → length (lent_by lent c call reply) ≤ length lent + lent_with reply
+lent-room lent c (Load l name retain) (Loaded n i skipped) = omega (arith, length_push lent (record { number = n; owner = c }))
+lent-room lent c (Unload t) reply = omega (arith, length-filter (λ x. not (nat_eq x.number t)) lent)
+lent-room lent c (Load l name retain) reply = omega arith
+lent-room lent c call reply = omega arith
+
+pub lent_with-few : (reply : Reply) → lent_with reply ≤ 1
+lent_with-few (Loaded n i skipped) = omega arith
+lent_with-few reply = omega arith
+
+-- a count of what is lent, after one more entry
+pub lent-more : (es : List (Entry Call Reply)) (e : Entry Call Reply) (lent : ℕ) → length (lent_after es) ≤ lent → length (lent_after (es ++ e ∷ [])) ≤ lent + lent_with e.reply
+lent-more es e lent few = rw lent-push (omega (arith, few, lent-room (lent_after es) e.caller e.call e.reply))
+
+-- and one that gives an owned activation back takes it out
+pub returned-room : (fixed : Fixed) (s : State) (entries : List (Entry Call Reply)) (c t : ℕ) (o : Option ℕ) → IsSound fixed s entries → IsTrue (owns (entries_of c entries) t activation_token) →
+    let going = unloading_from fixed.facts s t o in let lent = lent_after entries in length (lent_by lent c (Unload t) (answer_of going)) + returned_by going ≤ length lent
+returned-room fixed s entries c t o sound owned = of o
+  where
+    there : list_any (λ x. nat_eq x.number t) (lent_after entries) ≡ true
+    there = any_more (λ (x : Lent). nat_eq x.number t && is_lent_to c x) (λ x. nat_eq x.number t) (λ x h. (and_parts (nat_eq x.number t) (is_lent_to c x) h).0) (lent_after entries) (sound.owned c t activation_token owned)
+
+    of : (o : Option ℕ) → let going = unloading_from fixed.facts s t o in let lent = lent_after entries in length (lent_by lent c (Unload t) (answer_of going)) + returned_by going ≤ length lent
+    of None = omega (arith, length-filter_less (λ x. nat_eq x.number t) (lent_after entries) there)
+    of (Some l) = omega (arith, length-filter_less (λ x. nat_eq x.number t) (lent_after entries) there)
 
 -- nor does a default query that is set
 pub default-room : (s : State) (l : ℕ) (query : List Clause) → giving_back (with_default s l query) ≡ giving_back s

@@ -1,7 +1,7 @@
 -- The instances and library contexts of a state that a step leaves.
 use Rattle.std.proofs.Common.{◌≡◌, ℕ, ◌+◌, ◌<◌, Bool, true, false, not, ◌||◌, ◌&&◌, nat_eq, nat_lt, List, [], ◌∷◌, ◌++◌, length, map, refl, sym, ◌∙◌, ap, arith, inl, inr}
 use Rattle.std.proofs.Math.ListN.{length-set}
-use Rattle.std.specs.List.{list_all, filter}
+use Rattle.std.specs.List.{list_all, list_any, filter}
 use Rattle.std.specs.Prelude.{None, Some}
 use Rattle.std.specs.declared.option.Option.{Option}
 use Rattle.std.proofs.lemmas.Bool.{cases_Bool, cases_eq, eq-eqb, ne_eqb, lt-ltb, ltb-true}
@@ -18,6 +18,7 @@ use Rattle.ossl_names.specs.Groups.{Groups}
 use Rattle.ossl_property.specs.declared.clause.Clause.{Clause}
 use Rattle.ossl_calls.specs.declared.state.Active.{Active}
 use Rattle.ossl_calls.specs.declared.state.Born.{Born}
+use Rattle.ossl_calls.specs.declared.state.Given.{Given}
 use Rattle.ossl_calls.specs.declared.state.LibCtx.{LibCtx}
 use Rattle.ossl_calls.specs.declared.state.Live.{Live}
 use Rattle.ossl_calls.specs.declared.state.State.{State}
@@ -25,9 +26,9 @@ use Rattle.ossl_calls.specs.Boxes.{facts_at, place_of, default_name}
 use Rattle.ossl_calls.specs.History.{Fixed}
 use Rattle.ossl_calls.specs.Sound.{HasSoundInstances, is_paired, number_of_born, lib_of_born}
 use Rattle.ossl_calls.specs.State.{lib_at, with_lib, is_active_box, is_held, is_up, is_of_box, up_in, up_instances}
-use Rattle.ossl_calls.specs.Step.{closed_of, used_of, joined_of, held_instance, with_active, with_born, with_groups, grouped_of, defaulted_of, with_default, offer_of, new_instance, with_instance, after_activation, with_fallback_used, fallback_of, after_fallback_to, after_fallback, is_armed, with_element, without_element, with_closed, is_named}
-use Rattle.ossl_calls.proofs.ActiveLaws.{order_after, up_after, up_after_closing, up_active-held, up_active-other, up_active-itself, held_is, nothing_up}
-use Rattle.ossl_calls.proofs.ListLaws.{IsAmong, any_fewer, all_more, filter_same, filter_same-where, filter_same-among, filter-filter, filter-swap, distinct_fewer, is_in_below}
+use Rattle.ossl_calls.specs.Step.{closed_of, used_of, joined_of, held_instance, with_active, with_born, with_groups, grouped_of, defaulted_of, with_default, offer_of, new_instance, with_instance, after_activation, with_fallback_used, fallback_of, after_fallback_to, after_fallback, is_armed, with_element, without_element, with_closed, is_named, after_load_of, activation_given, holder_of, is_of_token, loaded_of, returned_of, stays_active, unloaded_of, with_given, with_unloaded}
+use Rattle.ossl_calls.proofs.ActiveLaws.{order_after, up_after, up_after_closing, up_after_settling, up_active-held, up_active-other, up_active-itself, held_is, nothing_up}
+use Rattle.ossl_calls.proofs.ListLaws.{IsAmong, any_fewer, all_fewer, all_more, filter_same, filter_same-where, filter_same-among, filter-filter, filter-swap, distinct_fewer, is_in_below}
 
 -- a change of a library context that keeps the order keeps what is up
 pub up_instances-order : (s : State) (l : ℕ) (lib : LibCtx) → l < length s.libs → lib.order ≡ (lib_at s l).order → up_instances (with_lib s l lib) ≡ up_instances s
@@ -62,8 +63,16 @@ fallback_found facts lib k found = elim (cases_Bool (is_armed lib.fallback)) [
   | inr off ↦ let none = (rw off at found) in cc
 ]
 
+-- a box of a name is in the catalogue
+pub box_placed : (facts : List Facts) (name : List ℕ) (k : ℕ) → place_of name facts ≡ Some k → k < length facts
+box_placed facts name k found = (position-Some (λ f. bytes_eq f.name name) facts k (facts_at facts k) found).0
+
+-- the library context in which an activation was given is there
+pub holder_there : (s : State) (t l : ℕ) → holder_of s t ≡ Some l → l < length s.libs
+holder_there s t l found = (position-Some (λ lib. list_any (is_of_token t) lib.given) s.libs l (lib_at s l) found).0
+
 pub fallback_placed : (facts : List Facts) (lib : LibCtx) (k : ℕ) → fallback_of facts lib ≡ Some k → k < length facts
-fallback_placed facts lib k found = (position-Some (λ f. bytes_eq f.name default_name) facts k (facts_at facts k) (fallback_found facts lib k found).1).0
+fallback_placed facts lib k found = box_placed facts default_name k (fallback_found facts lib k found).1
 
 -- a pair stays one when an instance more is born
 more_paired : (born : List Born) (b : Born) (l : ℕ) (order : List Active) → list_all (is_paired born l) order ≡ true → list_all (is_paired (born ++ b ∷ []) l) order ≡ true
@@ -135,6 +144,14 @@ module _ (fixed : Fixed) where
       fewer : (a b c : Bool) → (b ≡ true → c ≡ true) → (a || b) ≡ true → (a || c) ≡ true
       fewer a b c f h = grind (arith, common_steps)
 
+  -- an activation that is given back, and with it a pair of the order or none
+  pub instances-unloaded : (n : ℕ) (s : State) (l t : ℕ) (kept : Option ℕ) → l < length s.libs → HasSoundInstances fixed n s → HasSoundInstances fixed n (with_unloaded s l t kept)
+  instances-unloaded n s l t kept within h =
+      let lib = unloaded_of kept t (lib_at s l) in
+      let stays = stays_active kept (returned_of t (lib_at s l)).given in
+      instances-fewer n s (with_unloaded s l t kept) h refl (up_after_settling s l lib within stays refl) (length-set s.libs l lib)
+      (order_after s l lib within (λ m order. list_all (is_paired s.born m) order ≡ true) (all_fewer (is_paired s.born l) stays (lib_at s l).order (h.paired l)) h.paired)
+
   pub instances-element : (n : ℕ) (s : State) (x : Live) → ((b : Born) → IsAmong s.born b → is_in b.number x.held ≡ true → is_up s b ≡ true) → HasSoundInstances fixed n s → HasSoundInstances fixed n (with_element s x)
   instances-element n s x held h = instances-alike n s (with_element s x) h refl (up_instances-element s x held) refl h.paired
 
@@ -146,6 +163,10 @@ module _ (fixed : Fixed) where
   pub instances-order : (n : ℕ) (s : State) (l : ℕ) (lib : LibCtx) → l < length s.libs → lib.order ≡ (lib_at s l).order → HasSoundInstances fixed n s → HasSoundInstances fixed n (with_lib s l lib)
   instances-order n s l lib within same h = instances-alike n s (with_lib s l lib) h refl (up_instances-order s l lib within same) (length-set s.libs l lib)
       (order_after s l lib within (λ m order. list_all (is_paired s.born m) order ≡ true) (rw same (h.paired l)) h.paired)
+
+  -- an activation that is given
+  pub instances-given : (n : ℕ) (s : State) (l : ℕ) (retain : Bool) (g : Given) → l < length s.libs → HasSoundInstances fixed n s → HasSoundInstances fixed n (with_given s l retain g)
+  instances-given n s l retain g within h = instances-order n s l (loaded_of retain g (lib_at s l)) within refl h
 
   instances-grouped : (n : ℕ) (s : State) (l : ℕ) (groups : Groups) → l < length s.libs → HasSoundInstances fixed n s → HasSoundInstances fixed n (with_groups s l groups)
   instances-grouped n s l groups within h = instances-order n s l (grouped_of (lib_at s l) groups) within refl h
@@ -205,6 +226,12 @@ module _ (fixed : Fixed) where
           let g = with_groups s l groups in
           let alone : up_in g l k ≡ [] = ap (λ bs. filter (λ b. nat_eq b.lib l) (filter (is_of_box k) bs)) (up_instances-order s l (grouped_of (lib_at s l) groups) within refl) ∙ nothing_up s l k h.distinct (h.paired l) absent none in
           instances-born g l k (new_instance fixed.facts s l k) (omega (arith, within, length-set s.libs l (grouped_of (lib_at s l) groups))) lib_within placed refl refl refl alone (instances-grouped s.next s l groups within h)
+
+  -- the state that a load leaves
+  pub instances-load : (s : State) (c l : ℕ) (retain : Bool) (k : ℕ) → l < fixed.contexts → k < length fixed.facts → HasSoundInstances fixed s.next s → HasSoundInstances fixed (s.next + 1) (after_load_of fixed.facts s c l retain k)
+  instances-load s c l retain k lib_within placed h =
+      let active = instances-activation s l k (omega (arith, lib_within, h.contexts)) lib_within placed h in
+      instances-given (s.next + 1) (after_activation fixed.facts s l k) l retain (activation_given s c k) (omega (arith, lib_within, active.contexts)) active
 
   -- the state in which a fetch looks
   pub instances-fallback : (s : State) (l : ℕ) → l < fixed.contexts → HasSoundInstances fixed s.next s → HasSoundInstances fixed (s.next + 1) (after_fallback fixed.facts s l)

@@ -5,7 +5,7 @@ use Rattle.std.specs.Str.{bytes_eq}
 use Rattle.ossl_base.specs.declared.entry.Entry.{Entry}
 use Rattle.ossl_provider.specs.Sheet.{Facts, Sheet}
 use Rattle.ossl_calls.specs.declared.call.Call.{Call}
-use Rattle.ossl_calls.specs.declared.call.Call.TheVariants.{SetDefault, Fetch, NewCtx, Free, FreeCtx, CloseLib}
+use Rattle.ossl_calls.specs.declared.call.Call.TheVariants.{Load, Unload, SetDefault, Fetch, UpRef, Free, NewCtx, FreeCtx, CloseLib}
 use Rattle.ossl_calls.specs.declared.call.Reply.{Reply}
 use Rattle.ossl_calls.specs.declared.state.State.{State}
 use Rattle.ossl_calls.specs.Boxes.{sheet_of, facts_at}
@@ -62,9 +62,12 @@ HasSheets fixed sheets entries = (k : ℕ) → k < length sheets → sheet_of sh
 
 -- the calls that are never refused memory: those that give something back
 abbrev pub takes_no_memory : State → Call → Bool
+takes_no_memory s (Load l name retain) = false
+takes_no_memory s (Unload t) = true
 takes_no_memory s (SetDefault l query) = false
 takes_no_memory s (Fetch l op name query) = false
-takes_no_memory s (NewCtx h inner len) = false
+takes_no_memory s (UpRef h) = false
 takes_no_memory s (Free h) = true
+takes_no_memory s (NewCtx h inner len) = false
 takes_no_memory s (FreeCtx h) = true
 takes_no_memory s (CloseLib l) = (lib_at s l).is_open

@@ -1,16 +1,19 @@
 -- One step of the registry (provider(7), OSSL_PROVIDER(3)): where a reply may come, and what it leaves.
-use Rattle.std.specs.Prelude.{ℕ, ◌+◌, ◌≡◌, ⊤, Bool, true, false, ◌&&◌, nat_eq, not, IsTrue, IsFalse, if◌then◌else◌, List, [], ◌∷◌, ◌++◌, find, filter, None, Some}
+use Rattle.std.specs.Prelude.{ℕ, ◌+◌, ◌≡◌, ⊤, Bool, true, false, ◌&&◌, ◌||◌, nat_eq, not, IsTrue, IsFalse, if◌then◌else◌, List, [], ◌∷◌, ◌++◌, find, filter, position, unwrap_or, is_some, None, Some}
+use Rattle.std.specs.List.{list_any}
 use Rattle.std.specs.Option.{option_map}
 use Rattle.std.specs.declared.option.Option.{Option}
 use Rattle.ossl_provider.specs.Sheet.{Facts}
 use Rattle.ossl_calls.specs.declared.call.Call.{Call}
-use Rattle.ossl_calls.specs.declared.call.Call.TheVariants.{SetDefault, Fetch, NewCtx, Free, FreeCtx, CloseLib}
+use Rattle.ossl_calls.specs.declared.call.Call.TheVariants.{Load, Unload, SetDefault, Fetch, UpRef, Free, NewCtx, FreeCtx, CloseLib}
 use Rattle.ossl_calls.specs.declared.call.Reply.{Reply}
-use Rattle.ossl_calls.specs.declared.call.Reply.TheVariants.{Fetched, Made, Done, NoLib, StartRefused, Unsupported, NotAdmitted}
+use Rattle.ossl_calls.specs.declared.call.Reply.TheVariants.{Loaded, Fetched, Made, Done, NoLib, NoProvider, StartRefused, Unsupported, NotAdmitted}
+use Rattle.ossl_calls.specs.declared.state.Active.{Active}
 use Rattle.ossl_calls.specs.declared.state.Born.{Born}
 use Rattle.ossl_calls.specs.declared.state.Choice.{Choice}
 use Rattle.ossl_calls.specs.declared.state.Fallback.{Fallback}
 use Rattle.ossl_calls.specs.declared.state.Fallback.TheVariants.{Armed, Off, Used}
+use Rattle.ossl_calls.specs.declared.state.Given.{Given}
 use Rattle.ossl_calls.specs.declared.state.Kind.TheVariants.{Method, Context}
 use Rattle.ossl_calls.specs.declared.state.LibCtx.{LibCtx}
 use Rattle.ossl_calls.specs.declared.state.Live.{Live}
@@ -92,7 +95,95 @@ abbrev pub MayRefuse : State → ℕ → Option ℕ → Type 0
 MayRefuse s l None = ⊥
 MayRefuse s l (Some k) = up_in s l k ≡ []
 
--- 3. Live elements. Their owner is read by one word and set by another.
+-- 3. Activations that loads give. One belongs to the caller of its load until it is given back or its library context closes.
+
+-- a load that does not retain the fallback switches an armed one off
+abbrev pub fallback_after_load : Bool → Fallback → Fallback
+fallback_after_load true fallback = fallback
+fallback_after_load false Armed = Off
+fallback_after_load false Off = Off
+fallback_after_load false Used = Used
+
+abbrev pub loaded_of : Bool → Given → LibCtx → LibCtx
+loaded_of retain g lib = record lib { fallback = fallback_after_load retain lib.fallback; given = lib.given ++ g ∷ [] }
+
+-- the activation that a load of the box at a place gives
+abbrev pub activation_given : State → ℕ → ℕ → Given
+activation_given s c k = record { number = s.next; place = k; owner = c }
+
+abbrev pub with_given : State → ℕ → Bool → Given → State
+with_given s l retain g = with_lib s l (loaded_of retain g (lib_at s l))
+
+-- the box becomes active, and the caller has an activation of it
+abbrev pub after_load_of : List Facts → State → ℕ → ℕ → Bool → ℕ → State
+after_load_of facts s c l retain k = with_given (after_activation facts s l k) l retain (activation_given s c k)
+
+-- None never comes where a load is accepted
+abbrev pub after_load : List Facts → State → ℕ → ℕ → Bool → Option ℕ → State
+after_load facts s c l retain None = s
+after_load facts s c l retain (Some k) = after_load_of facts s c l retain k
+
+-- the instance of a box in an order; 0 never comes where the box is active
+abbrev pub instance_in : List Active → ℕ → ℕ
+instance_in order k = unwrap_or (option_map (λ a. a.instance) (find (λ a. nat_eq a.place k) order)) 0
+
+-- how many rows of an instance were left out; 0 also where there is no such instance
+abbrev pub skipped_of : List Born → ℕ → ℕ
+skipped_of born n = unwrap_or (option_map (λ b. b.skipped) (find (λ b. nat_eq b.number n) born)) 0
+
+-- what a load answers once the box at a place is active: its token, the box's instance in the order, and its rows that were left out
+abbrev pub loaded_reply : State → ℕ → ℕ → ℕ → Reply
+loaded_reply active n l k = let i = instance_in (lib_at active l).order k in Loaded n i (skipped_of active.born i)
+
+-- a load of a box that is in the catalogue is answered with what it leaves active
+abbrev pub IsLoaded : List Facts → State → ℕ → Reply → Option ℕ → Type 0
+IsLoaded facts s l reply None = ⊥
+IsLoaded facts s l reply (Some k) = reply ≡ loaded_reply (after_activation facts s l k) s.next l k
+
+-- the activation that a token names
+abbrev pub is_of_token : ℕ → Given → Bool
+is_of_token t g = nat_eq g.number t
+
+-- the library context in which a token's activation was given
+abbrev pub holder_of : State → ℕ → Option ℕ
+holder_of s t = position (λ lib. list_any (is_of_token t) lib.given) s.libs
+
+abbrev pub is_used : Fallback → Bool
+is_used Used = true
+is_used Armed = false
+is_used Off = false
+
+-- the box that the fallback itself keeps active: `default`, once a fetch has fallen back to it
+abbrev pub kept_of : List Facts → LibCtx → Option ℕ
+kept_of facts lib = if is_used lib.fallback then place_of default_name facts else None
+
+abbrev pub is_kept : Option ℕ → ℕ → Bool
+is_kept None k = false
+is_kept (Some j) k = nat_eq j k
+
+-- an active provider stays while it has an activation or the fallback keeps it
+abbrev pub stays_active : Option ℕ → List Given → Active → Bool
+stays_active kept given a = list_any (λ g. nat_eq g.place a.place) given || is_kept kept a.place
+
+abbrev pub settled_of : Option ℕ → LibCtx → LibCtx
+settled_of kept lib = record lib { order = filter (stays_active kept lib.given) lib.order }
+
+abbrev pub returned_of : ℕ → LibCtx → LibCtx
+returned_of t lib = record lib { given = filter (λ g. not (is_of_token t g)) lib.given }
+
+-- a token's activation goes, and with it the provider where nothing else keeps it active
+abbrev pub unloaded_of : Option ℕ → ℕ → LibCtx → LibCtx
+unloaded_of kept t lib = settled_of kept (returned_of t lib)
+
+abbrev pub with_unloaded : State → ℕ → ℕ → Option ℕ → State
+with_unloaded s l t kept = with_lib s l (unloaded_of kept t (lib_at s l))
+
+-- None: the library context was closed, and the activation went with it
+abbrev pub after_unload : List Facts → State → ℕ → Option ℕ → State
+after_unload facts s t None = s
+after_unload facts s t (Some l) = with_unloaded s l t (kept_of facts (lib_at s l))
+
+-- 4. Live elements. Their owner is read by one word and set by another.
 
 abbrev pub owned_by : ℕ → ℕ
 owned_by c = c
@@ -131,6 +222,15 @@ abbrev pub held_by_inner : State → Option ℕ → List ℕ
 held_by_inner s None = []
 held_by_inner s (Some t) = held_by (element_of s t)
 
+-- a second method is as the first, with a token and an owner of its own
+abbrev pub second_method : ℕ → ℕ → Live → Live
+second_method n c x = record x { number = n; owner = owned_by c }
+
+-- None never comes in a legal history
+abbrev pub with_second : State → ℕ → Option Live → State
+with_second s c None = s
+with_second s c (Some x) = with_element s (second_method s.next c x)
+
 -- an operation context has the method's provider, row and code, and holds the instances of the method and of the inner one
 abbrev pub new_context : State → ℕ → Option ℕ → Live → Live
 new_context s c inner m = record { number = s.next; owner = owned_by c; kind = Context; held = m.held ++ held_by_inner s inner; place = m.place; row = m.row; code = m.code }
@@ -145,7 +245,7 @@ abbrev pub admits : List Facts → ℕ → Option Live → Bool
 admits facts len None = false
 admits facts len (Some m) = (facts_at facts m.place).admits m.code len
 
--- 4. A library context closes.
+-- 5. A library context closes.
 
 abbrev pub closed_of : LibCtx → LibCtx
 closed_of lib = record lib { is_open = false; given = []; order = []; groups = [] }
@@ -153,7 +253,7 @@ closed_of lib = record lib { is_open = false; given = []; order = []; groups = [
 abbrev pub with_closed : State → ℕ → State
 with_closed s l = with_lib s l (closed_of (lib_at s l))
 
--- 5. The default query of a library context.
+-- 6. The default query of a library context.
 
 abbrev pub defaulted_of : LibCtx → List Clause → LibCtx
 defaulted_of lib query = record lib { default = query }
@@ -161,7 +261,7 @@ defaulted_of lib query = record lib { default = query }
 abbrev pub with_default : State → ℕ → List Clause → State
 with_default s l query = with_lib s l (defaulted_of (lib_at s l) query)
 
--- 6. The table of steps.
+-- 7. The table of steps.
 
 -- what a fetch answers of its choice
 abbrev pub fetched_of : List Facts → ℕ → Option Choice → Reply
@@ -170,6 +270,12 @@ fetched_of facts n (Some chosen) = Fetched n (facts_at facts chosen.place).name 
 
 -- where a reply to a call may come
 abbrev pub Answers : List Facts → State → ℕ → Call → Reply → Type 0
+Answers facts s c (Load l name retain) NoLib = IsFalse (lib_at s l).is_open
+Answers facts s c (Load l name retain) NoProvider = IsTrue (lib_at s l).is_open × (place_of name facts ≡ None)
+Answers facts s c (Load l name retain) (StartRefused p) = IsTrue (lib_at s l).is_open × (p ≡ name) × MayRefuse s l (place_of name facts)
+Answers facts s c (Load l name retain) (Loaded n i skipped) = IsTrue (lib_at s l).is_open × IsLoaded facts s l (Loaded n i skipped) (place_of name facts)
+Answers facts s c (Unload t) NoLib = holder_of s t ≡ None
+Answers facts s c (Unload t) Done = IsTrue (is_some (holder_of s t))
 Answers facts s c (SetDefault l query) NoLib = IsFalse (lib_at s l).is_open
 Answers facts s c (SetDefault l query) Done = IsTrue (lib_at s l).is_open
 Answers facts s c (Fetch l op name query) NoLib = IsFalse (lib_at s l).is_open
@@ -180,6 +286,7 @@ Answers facts s c (Fetch l op name query) (Fetched n p i r code) =
     IsTrue (lib_at s l).is_open × (Fetched n p i r code ≡ fetched_of facts s.next (best_method (after_fallback facts s l) l op name query))
 Answers facts s c (Fetch l op name query) Unsupported =
     IsTrue (lib_at s l).is_open × (best_method (after_fallback facts s l) l op name query ≡ None)
+Answers facts s c (UpRef h) (Made n) = n ≡ s.next
 Answers facts s c (Free h) Done = ⊤
 Answers facts s c (FreeCtx h) Done = ⊤
 Answers facts s c (NewCtx h inner len) NotAdmitted = IsFalse (admits facts len (element_of s h))
@@ -190,6 +297,12 @@ Answers facts s c call reply = ⊥
 
 -- what a call and its reply leave, but for the number of the next entry
 abbrev pub left_by : List Facts → State → ℕ → Call → Reply → State
+left_by facts s c (Load l name retain) NoLib = s
+left_by facts s c (Load l name retain) NoProvider = s
+left_by facts s c (Load l name retain) (StartRefused p) = s
+left_by facts s c (Load l name retain) (Loaded n i skipped) = after_load facts s c l retain (place_of name facts)
+left_by facts s c (Unload t) NoLib = s
+left_by facts s c (Unload t) Done = after_unload facts s t (holder_of s t)
 left_by facts s c (SetDefault l query) NoLib = s
 left_by facts s c (SetDefault l query) Done = with_default s l query
 left_by facts s c (Fetch l op name query) NoLib = s
@@ -197,6 +310,7 @@ left_by facts s c (CloseLib l) NoLib = s
 left_by facts s c (Fetch l op name query) (StartRefused p) = s
 left_by facts s c (Fetch l op name query) (Fetched n p i r code) = let f = after_fallback facts s l in with_method f c (best_method f l op name query)
 left_by facts s c (Fetch l op name query) Unsupported = after_fallback facts s l
+left_by facts s c (UpRef h) (Made n) = with_second s c (element_of s h)
 left_by facts s c (Free h) Done = without_element s h
 left_by facts s c (FreeCtx h) Done = without_element s h
 left_by facts s c (NewCtx h inner len) NotAdmitted = s

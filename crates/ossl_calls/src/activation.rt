@@ -1,6 +1,6 @@
 ghost use Rattle.std.specs.Prelude.{◌≡◌, ◌<◌, length, map, position, slice_index_or, slice_set, IfOk, OnOk};
 ghost use Rattle.std.specs.Str.{bytes_eq};
-ghost use Rattle.ossl_calls.specs.Boxes.{default_name};
+ghost use Rattle.ossl_calls.specs.Boxes.{place_of};
 ghost use Rattle.ossl_calls.specs.Events.{needs_birth};
 ghost use Rattle.ossl_calls.specs.Rows.{offered};
 ghost use Rattle.ossl_calls.specs.State.{is_active_box, no_lib};
@@ -51,20 +51,26 @@ fn is_armed_fallback(fallback: Fallback) -> bool
     }
 }
 
-fn is_default<P: Provider>(provider: &P) -> bool
-    ensures { result ≡ bytes_eq (P.facts provider.now).name default_name }
+fn has_name<P: Provider>(provider: &P, name: &[u8]) -> bool
+    ensures { result ≡ bytes_eq (P.facts provider.now).name name.now }
 {
-    provider.name() == b"default".as_slice()
+    provider.name() == name
 }
 
-/// The place of the provider `default`.
-fn find_default<P: Provider>(boxes: &[P]) -> Option<usize>
-    ensures { result ≡ position (λ b. bytes_eq (P.facts b).name default_name) boxes.now }
+fn first_named<P: Provider>(boxes: &[P], name: &[u8]) -> Option<usize>
+    ensures { result ≡ position (λ b. bytes_eq (P.facts b).name name.now) boxes.now }
 {
-    boxes.iter().position(|b| is_default(b))
+    boxes.iter().position(|b| has_name(b, name))
 }
 
-fn fallback_at(libs: &[LibCtx], lib: u64) -> Fallback
+/// The place of the provider of a name.
+pub fn find_box<P: Provider>(boxes: &[P], name: &[u8]) -> Option<usize>
+    ensures { result ≡ place_of name.now (map P.facts boxes.now) }
+{
+    first_named(boxes, name)
+}
+
+pub fn fallback_at(libs: &[LibCtx], lib: u64) -> Fallback
     ensures { result ≡ (slice_index_or libs.now lib no_lib).fallback }
 {
     match libs.get(lib as usize) {
@@ -78,7 +84,7 @@ pub fn find_fallback<P: Provider>(boxes: &[P], libs: &[LibCtx], lib: u64) -> Opt
     ensures { result ≡ fallback_of (map P.facts boxes.now) (slice_index_or libs.now lib no_lib) }
 {
     if is_armed_fallback(fallback_at(libs, lib)) {
-        find_default(boxes)
+        find_box(boxes, b"default")
     } else {
         None
     }
@@ -174,6 +180,23 @@ fn activate<P: Provider>(
     }
 }
 
+/// The state once a provider has become active in a library context.
+pub fn activated<P: Provider>(
+    alloc: Global,
+    boxes: &[P],
+    state: &State,
+    lib: u64,
+    place: usize,
+) -> Result<State, AllocError>
+    requires lib { lib < length state.now.libs }
+    requires place { place < length boxes.now }
+    ensures { IfOk result (λ left. left ≡ after_activation (map P.facts boxes.now) state.now lib place) }
+{
+    let mut left = copy_state(alloc, state)?;
+    activate(alloc, boxes, &mut left, lib, place)?;
+    Ok(left)
+}
+
 /// The state in which a fetch looks that falls back to a provider.
 pub fn fall_back<P: Provider>(
     alloc: Global,
@@ -186,8 +209,7 @@ pub fn fall_back<P: Provider>(
     requires place { place < length boxes.now }
     ensures { IfOk result (λ left. left ≡ with_fallback_used (after_activation (map P.facts boxes.now) state.now lib place) lib) }
 {
-    let mut left = copy_state(alloc, state)?;
-    activate(alloc, boxes, &mut left, lib, place)?;
+    let mut left = activated(alloc, boxes, state, lib, place)?;
     use_fallback(alloc, &mut left.libs, lib as usize);
     Ok(left)
 }

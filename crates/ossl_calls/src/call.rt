@@ -9,6 +9,17 @@ use std::alloc::{AllocError, Global};
 /// of the entry that handed it out.
 #[derive(Drop)]
 pub enum Call {
+    /// Loads a provider, and hands out an activation of it (OSSL_PROVIDER(3)). With `retain` the fallback to the provider
+    /// `default` is kept.
+    Load {
+        lib: u64,
+        name: Text,
+        retain: bool,
+    },
+    /// Gives an activation back.
+    Unload {
+        token: u64,
+    },
     /// Sets the default query of a library context (EVP_set_default_properties(3)).
     SetDefault {
         lib: u64,
@@ -21,15 +32,19 @@ pub enum Call {
         name: Text,
         query: Query,
     },
+    /// Makes a second method of the same provider and row (EVP_MD_up_ref(3)).
+    UpRef {
+        handle: u64,
+    },
+    /// Gives a method back.
+    Free {
+        handle: u64,
+    },
     /// Makes an operation context of a method, with the method of an inner algorithm where there is one.
     NewCtx {
         handle: u64,
         inner: Option<u64>,
         key_len: u64,
-    },
-    /// Gives a method back.
-    Free {
-        handle: u64,
     },
     /// Gives an operation context back.
     FreeCtx {
@@ -47,6 +62,12 @@ impl Call {
         ensures { IfOk result (λ call. call ≡ self.now) }
     {
         Ok(match self {
+            Call::Load { lib, name, retain } => Call::Load {
+                lib: *lib,
+                name: name.copy(alloc)?,
+                retain: *retain,
+            },
+            Call::Unload { token } => Call::Unload { token: *token },
             Call::SetDefault { lib, query } => Call::SetDefault {
                 lib: *lib,
                 query: query.copy(alloc)?,
@@ -62,6 +83,8 @@ impl Call {
                 name: name.copy(alloc)?,
                 query: query.copy(alloc)?,
             },
+            Call::UpRef { handle } => Call::UpRef { handle: *handle },
+            Call::Free { handle } => Call::Free { handle: *handle },
             Call::NewCtx {
                 handle,
                 inner,
@@ -71,7 +94,6 @@ impl Call {
                 inner: *inner,
                 key_len: *key_len,
             },
-            Call::Free { handle } => Call::Free { handle: *handle },
             Call::FreeCtx { handle } => Call::FreeCtx { handle: *handle },
             Call::CloseLib { lib } => Call::CloseLib { lib: *lib },
         })
@@ -81,6 +103,12 @@ impl Call {
 /// What the registry answers.
 #[derive(Drop)]
 pub enum Reply {
+    /// An activation, with its token, the instance that it keeps active, and how many rows of that were left out.
+    Loaded {
+        number: u64,
+        instance: u64,
+        skipped: u64,
+    },
     /// A method, with its token, and the provider, instance, row and code that it stands for.
     Fetched {
         number: u64,
@@ -97,6 +125,8 @@ pub enum Reply {
     Done,
     /// The library context is closed.
     NoLib,
+    /// The catalogue has no provider of this name.
+    NoProvider,
     /// The provider refused to start in this call.
     StartRefused {
         provider: Text,
@@ -113,6 +143,15 @@ impl Reply {
         ensures { IfOk result (λ reply. reply ≡ self.now) }
     {
         Ok(match self {
+            Reply::Loaded {
+                number,
+                instance,
+                skipped,
+            } => Reply::Loaded {
+                number: *number,
+                instance: *instance,
+                skipped: *skipped,
+            },
             Reply::Fetched {
                 number,
                 provider,
@@ -129,6 +168,7 @@ impl Reply {
             Reply::Made { number } => Reply::Made { number: *number },
             Reply::Done => Reply::Done,
             Reply::NoLib => Reply::NoLib,
+            Reply::NoProvider => Reply::NoProvider,
             Reply::StartRefused { provider } => Reply::StartRefused {
                 provider: provider.copy(alloc)?,
             },

@@ -1,8 +1,8 @@
 ghost use Rattle.std.specs.Prelude.{◌≡◌, ◌++◌, find, map, IfOk, OnOk};
-ghost use Rattle.std.specs.Option.{option_copied};
+ghost use Rattle.std.specs.Option.{option_copied, option_map};
 ghost use Rattle.ossl_calls.specs.Boxes.{facts_at};
 ghost use Rattle.ossl_calls.specs.Events.{context_made};
-ghost use Rattle.ossl_calls.specs.Step.{element_of, fetched_of, held_by_inner, is_named, new_method, with_method};
+ghost use Rattle.ossl_calls.specs.Step.{element_of, fetched_of, held_by_inner, is_named, new_method, second_method, with_method};
 
 use crate::call::Reply;
 use crate::items::Items;
@@ -94,6 +94,29 @@ fn find_element(live: &[Live], token: u64) -> Option<&Live>
     ensures { option_copied result ≡ find (is_named token) live.now }
 {
     live.iter().find(|x| x.number == token)
+}
+
+/// A second method, as the one that a token names.
+pub fn second_of(
+    alloc: Global,
+    state: &State,
+    caller: u64,
+    handle: u64,
+) -> Result<Option<Live>, AllocError>
+    ensures { IfOk result (λ made. made ≡ option_map (second_method state.now.next caller) (element_of state.now handle)) }
+{
+    let Some(method) = find_element(state.live.as_slice(), handle) else {
+        return Ok(None);
+    };
+    Ok(Some(Live {
+        number: state.next,
+        owner: caller,
+        kind: method.kind,
+        held: Items::from_slice(alloc, method.held.as_slice())?,
+        place: method.place,
+        row: method.row,
+        code: method.code,
+    }))
 }
 
 /// The instances that a method holds, and those of an inner one.

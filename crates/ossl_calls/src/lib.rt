@@ -12,6 +12,7 @@ mod defaults;
 mod element;
 mod going;
 pub mod items;
+mod load;
 mod lookup;
 mod offer;
 mod opening;

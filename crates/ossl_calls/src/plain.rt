@@ -1,27 +1,29 @@
 ghost use Rattle.std.specs.Prelude.{◌≡◌, ◌<◌, ◌≤◌, ◌+◌, ◌++◌, ◌∷◌, [], length, map, IsTrue, IsOk, IfOk, IfErr, OnErr};
 ghost use Rattle.ossl_calls.specs.Best.{best_method};
-ghost use Rattle.ossl_calls.specs.Boxes.{facts_at};
-ghost use Rattle.ossl_calls.specs.Events.{Keeps, Takes, Refuses, Bears, context_made, needs_birth};
-ghost use Rattle.ossl_calls.specs.Going.{without_going};
+ghost use Rattle.std.specs.Option.{option_map};
+ghost use Rattle.ossl_calls.specs.Boxes.{facts_at, place_of};
+ghost use Rattle.ossl_calls.specs.Events.{Keeps, Takes, Refuses, Bears, context_made, needs_birth, unloading};
+ghost use Rattle.ossl_calls.specs.Going.{answer_of, returned_by, without_going};
 ghost use Rattle.ossl_calls.specs.History.{IsLegal, IsAllowed, IsNext};
 ghost use Rattle.ossl_calls.specs.Registry.{IsCatalogue, HasSheets, are_apart, fixed_of, state_of, takes_no_memory};
-ghost use Rattle.ossl_calls.specs.Sound.{IsSound, giving_back};
+ghost use Rattle.ossl_calls.specs.Sound.{IsSound, giving_back, lent_after, lent_by};
 ghost use Rattle.ossl_calls.specs.State.{lib_at, up_instances};
-ghost use Rattle.ossl_calls.specs.Step.{after_activation, element_of, fallback_of, fetched_of, new_method, with_element, with_fallback_used};
+ghost use Rattle.ossl_calls.specs.Step.{after_activation, element_of, fallback_of, fetched_of, new_method, second_method, with_element, with_fallback_used};
 ghost use Rattle.ossl_calls.specs.Tokens.{entries_of};
 ghost use Rattle.ossl_calls.specs.declared.state.Born.{Born};
 
-use crate::activation::{fall_back, find_fallback, needs_start};
+use crate::activation::{activated, fall_back, find_box, find_fallback, needs_start};
 use crate::best::best;
 use crate::boxes::start_at;
 use crate::call::{Call, Entry, Reply};
 use crate::defaults::set_default;
-use crate::element::{context_of, give_method, make_method, name_at, reply_of};
-use crate::going::{stop_going, take_out};
+use crate::element::{context_of, give_method, make_method, name_at, reply_of, second_of};
+use crate::going::{answer, returned, stop_going, take_out};
+use crate::load::{find_holder, find_kept, give_activation, reply_of_load};
 use crate::lookup::{is_open_lib, is_up_instance};
 use crate::opening::{counts_of, open_state};
-use crate::room::reserve_room;
-use crate::state::{Choice, Going, Live, State};
+use crate::room::{append, reserve_room};
+use crate::state::{Choice, Given, Going, Live, State};
 use ossl_base::text::Text;
 use ossl_codes::Operation;
 use ossl_property::{Query, Steps};
@@ -42,14 +44,16 @@ pub struct PlainRegistry<P: Provider = Boxed> {
     opened: Vec<u64>,
     contexts: u64,
     state: State,
+    // How many activations were handed out and not given back, at most: each takes an entry to give back.
+    lent: usize,
     history: Vec<Entry>,
 }
 
 impl<P: Provider> Model for PlainRegistry<P> {
-    ghost use Rattle.std.specs.Prelude.{◌+◌, ◌≤◌, map, vec_len, vec_capacity};
+    ghost use Rattle.std.specs.Prelude.{◌+◌, ◌≤◌, length, map, vec_len, vec_capacity};
     ghost use Rattle.ossl_calls.specs.Kept.{IsKept};
     ghost use Rattle.ossl_calls.specs.Registry.{Shown};
-    ghost use Rattle.ossl_calls.specs.Sound.{giving_back};
+    ghost use Rattle.ossl_calls.specs.Sound.{giving_back, lent_after};
 
     ghost Value = { Shown P };
 
@@ -58,7 +62,8 @@ impl<P: Provider> Model for PlainRegistry<P> {
     ghost invariant = { λ r.
         IsKept (record { facts = map P.facts r.boxes.items; contexts = r.contexts; opened = r.opened.items })
         (map P.sheet r.boxes.items) r.state r.history.items
-        × (vec_len r.history + giving_back r.state ≤ vec_capacity r.history) };
+        × (length (lent_after r.history.items) ≤ r.lent)
+        × (vec_len r.history + giving_back r.state + r.lent ≤ vec_capacity r.history) };
 }
 
 /// Want of memory at the opening of a registry, with the boxes that were handed in.
@@ -108,6 +113,7 @@ impl<P: Provider> PlainRegistry<P> {
             opened,
             contexts,
             state,
+            lent: 0,
             history,
         })
     }
@@ -134,6 +140,8 @@ impl<P: Provider> PlainRegistry<P> {
         ensures no_memory { IsTrue (takes_no_memory (state_of P.facts self.old) call.now) → IsOk result }
     {
         let reply = match call {
+            Call::Load { lib, name, retain } => self.load(caller, *lib, name, *retain),
+            Call::Unload { token } => Ok(self.unload(caller, *token)),
             Call::SetDefault { lib, query } => self.set_default(caller, *lib, query),
             Call::Fetch {
                 lib,
@@ -141,12 +149,13 @@ impl<P: Provider> PlainRegistry<P> {
                 name,
                 query,
             } => self.fetch(caller, *lib, *op, name, query, steps),
+            Call::UpRef { handle } => self.up_ref(caller, *handle),
+            Call::Free { handle } => Ok(self.free(caller, *handle)),
             Call::NewCtx {
                 handle,
                 inner,
                 key_len,
             } => self.new_ctx(caller, *handle, *inner, *key_len),
-            Call::Free { handle } => Ok(self.free(caller, *handle)),
             Call::FreeCtx { handle } => Ok(self.free_ctx(caller, *handle)),
             Call::CloseLib { lib } => self.close_lib(caller, *lib),
         };
@@ -199,9 +208,17 @@ impl<P: Provider> PlainRegistry<P> {
             opened: _,
             contexts: _,
             state: _,
+            lent: _,
             history,
         } = self;
         (history, boxes)
+    }
+
+    /// The number of the next entry.
+    fn next(&self) -> u64
+        ensures { result ≡ (state_of P.facts self.now).next }
+    {
+        self.state.next
     }
 
     /// Whether a library context is open.
@@ -282,6 +299,143 @@ impl<P: Provider> PlainRegistry<P> {
         let starts = needs_start(&self.state, lib, place);
         let left = fall_back(self.alloc, self.boxes.as_slice(), &self.state, lib, place)?;
         Ok((left, starts))
+    }
+
+    /// The place of the provider of a name.
+    fn place_of(&self, name: &[u8]) -> Option<usize>
+        ensures place { result ≡ place_of name.now (map P.facts self.now.boxes) }
+        ensures sound { IsSound (fixed_of P.facts self.now) (state_of P.facts self.now) self.now.entries }
+        ensures names { IsTrue (are_apart (map P.facts self.now.boxes)) }
+    {
+        find_box(self.boxes.as_slice(), name)
+    }
+
+    /// The state once a provider has become active in a library context, and whether it has to be started.
+    fn activated(&self, lib: u64, place: usize) -> Result<(State, bool), AllocError>
+        requires lib { lib < self.now.contexts }
+        requires place { place < length self.now.boxes }
+        ensures state { IfOk result (λ r. r.0 ≡ after_activation (map P.facts self.now.boxes) (state_of P.facts self.now) lib place) }
+        ensures starts { IfOk result (λ r. r.1 ≡ needs_birth (state_of P.facts self.now) lib place) }
+    {
+        let starts = needs_start(&self.state, lib, place);
+        let left = activated(self.alloc, self.boxes.as_slice(), &self.state, lib, place)?;
+        Ok((left, starts))
+    }
+
+    /// Where a token's activation stands, and which box stays active there for the fallback.
+    fn going_of(&self, token: u64) -> Going
+        ensures { result ≡ unloading (map P.facts self.now.boxes) (state_of P.facts self.now) token }
+    {
+        let libs = self.state.libs.as_slice();
+        match find_holder(libs, token) {
+            Some(lib) => {
+                let kept = find_kept(self.boxes.as_slice(), libs, lib as u64);
+                Going::Activation { lib, token, kept }
+            }
+            None => Going::Nothing,
+        }
+    }
+
+    /// A second method, as the one that a token names.
+    fn second_of(&self, caller: u64, handle: u64) -> Result<Option<Live>, AllocError>
+        ensures { IfOk result (λ made. let s = state_of P.facts self.now in
+            made ≡ option_map (second_method s.next caller) (element_of s handle)) }
+    {
+        second_of(self.alloc, &self.state, caller, handle)
+    }
+
+    /// Loads a provider.
+    fn load(
+        &mut self,
+        caller: u64,
+        lib: u64,
+        name: &Text,
+        retain: bool,
+    ) -> Result<Reply, AllocError>
+        requires allowed { IsAllowed (fixed_of P.facts self.old) (entries_of caller self.old.entries) (Call.Load lib name.now retain) }
+        ensures entry { IfOk result (λ reply. self.new.entries
+            ≡ self.old.entries ++ record { caller = caller; call = Call.Load lib name.now retain; reply = reply } ∷ []) }
+        ensures fixed { fixed_of P.facts self.new ≡ fixed_of P.facts self.old }
+        ensures err { OnErr result (self.new ≡ self.old) }
+    {
+        let call = Call::Load {
+            lib,
+            name: name.copy(self.alloc)?,
+            retain,
+        };
+        if !self.is_open(lib) {
+            return self.note(caller, call, Reply::NoLib);
+        }
+        match self.place_of(name.as_slice()) {
+            Some(place) => self.load_box(caller, call, lib, name, retain, place),
+            None => self.note(caller, call, Reply::NoProvider),
+        }
+    }
+
+    /// Loads the provider at a place into an open library context.
+    fn load_box(
+        &mut self,
+        caller: u64,
+        call: Call,
+        lib: u64,
+        name: &Text,
+        retain: bool,
+        place: usize,
+    ) -> Result<Reply, AllocError>
+        requires is { call ≡ Call.Load lib name.now retain }
+        requires allowed { IsAllowed (fixed_of P.facts self.old) (entries_of caller self.old.entries) (Call.Load lib name.now retain) }
+        requires open { IsTrue (lib_at (state_of P.facts self.old) lib).is_open }
+        requires found { place_of name.now (map P.facts self.old.boxes) ≡ Some place }
+        requires sound { IsSound (fixed_of P.facts self.old) (state_of P.facts self.old) self.old.entries }
+        requires names { IsTrue (are_apart (map P.facts self.old.boxes)) }
+        ensures entry { IfOk result (λ reply.
+            self.new.entries ≡ self.old.entries ++ record { caller = caller; call = call; reply = reply } ∷ []) }
+        ensures fixed { fixed_of P.facts self.new ≡ fixed_of P.facts self.old }
+        ensures err { OnErr result (self.new ≡ self.old) }
+    {
+        let (mut left, starts) = self.activated(lib, place)?;
+        let number = left.next;
+        let reply = reply_of_load(&left, number, lib, place);
+        let given = Given {
+            number,
+            place,
+            owner: caller,
+        };
+        give_activation(self.alloc, &mut left.libs, lib as usize, retain, given)?;
+        if starts {
+            let provider = name.copy(self.alloc)?;
+            let refused = Reply::StartRefused { provider };
+            self.start(caller, call, place, left, reply, refused)
+        } else {
+            self.put(caller, call, reply, left)
+        }
+    }
+
+    /// Gives an activation back.
+    fn unload(&mut self, caller: u64, token: u64) -> Reply
+        requires allowed { IsAllowed (fixed_of P.facts self.old) (entries_of caller self.old.entries) (Call.Unload token) }
+        ensures entry { self.new.entries ≡ self.old.entries ++ record { caller = caller; call = Call.Unload token; reply = result } ∷ [] }
+        ensures fixed { fixed_of P.facts self.new ≡ fixed_of P.facts self.old }
+    {
+        let _ = &self.state;
+        let going = self.going_of(token);
+        self.take_down(caller, Call::Unload { token }, &going)
+    }
+
+    /// Makes a second method, as the one that a token names.
+    fn up_ref(&mut self, caller: u64, handle: u64) -> Result<Reply, AllocError>
+        requires allowed { IsAllowed (fixed_of P.facts self.old) (entries_of caller self.old.entries) (Call.UpRef handle) }
+        ensures entry { IfOk result (λ reply. self.new.entries
+            ≡ self.old.entries ++ record { caller = caller; call = Call.UpRef handle; reply = reply } ∷ []) }
+        ensures fixed { fixed_of P.facts self.new ≡ fixed_of P.facts self.old }
+        ensures err { OnErr result (self.new ≡ self.old) }
+    {
+        let call = Call::UpRef { handle };
+        let number = self.next();
+        match self.second_of(caller, handle)? {
+            Some(made) => self.add(caller, call, Reply::Made { number }, made),
+            None => self.note(caller, call, Reply::Made { number }),
+        }
     }
 
     /// Sets the default query of a library context.
@@ -465,13 +619,14 @@ impl<P: Provider> PlainRegistry<P> {
         ensures err { OnErr result (self.new ≡ self.old) }
     {
         let answer = reply.copy(self.alloc)?;
-        reserve_room(&mut self.history, &self.state, 1)?;
+        reserve_room(&mut self.history, &self.state, self.lent + 3)?;
         self.state.next += 1;
-        self.history.push_reserved(Entry {
+        let entry = Entry {
             caller,
             call,
             reply,
-        });
+        };
+        append(&mut self.history, &mut self.lent, entry);
         Ok(answer)
     }
 
@@ -491,14 +646,15 @@ impl<P: Provider> PlainRegistry<P> {
         ensures fixed { fixed_of P.facts self.new ≡ fixed_of P.facts self.old }
         ensures err { OnErr result (self.new ≡ self.old) }
     {
-        reserve_room(&mut self.history, &self.state, 1)?;
+        reserve_room(&mut self.history, &self.state, self.lent + 3)?;
         set_default(self.alloc, &mut self.state.libs, lib as usize, default);
         self.state.next += 1;
-        self.history.push_reserved(Entry {
+        let entry = Entry {
             caller,
             call,
             reply: Reply::Done,
-        });
+        };
+        append(&mut self.history, &mut self.lent, entry);
         Ok(Reply::Done)
     }
 
@@ -519,14 +675,15 @@ impl<P: Provider> PlainRegistry<P> {
         ensures err { OnErr result (self.new ≡ self.old) }
     {
         let answer = reply.copy(self.alloc)?;
-        reserve_room(&mut self.history, &self.state, 2)?;
+        reserve_room(&mut self.history, &self.state, self.lent + 3)?;
         self.state.live.push(made)?;
         self.state.next += 1;
-        self.history.push_reserved(Entry {
+        let entry = Entry {
             caller,
             call,
             reply,
-        });
+        };
+        append(&mut self.history, &mut self.lent, entry);
         Ok(answer)
     }
 
@@ -548,14 +705,15 @@ impl<P: Provider> PlainRegistry<P> {
         ensures err { OnErr result (self.new ≡ self.old) }
     {
         let answer = reply.copy(self.alloc)?;
-        reserve_room(&mut self.history, &self.state, 2)?;
+        reserve_room(&mut self.history, &self.state, self.lent + 3)?;
         self.state = left;
         self.state.next += 1;
-        self.history.push_reserved(Entry {
+        let entry = Entry {
             caller,
             call,
             reply,
-        });
+        };
+        append(&mut self.history, &mut self.lent, entry);
         Ok(answer)
     }
 
@@ -592,18 +750,18 @@ impl<P: Provider> PlainRegistry<P> {
             call,
             reply: refused.copy(self.alloc)?,
         };
-        reserve_room(&mut self.history, &self.state, 2)?;
+        reserve_room(&mut self.history, &self.state, self.lent + 3)?;
         let number = self.state.next;
         match start_at(&mut self.boxes, place, number) {
             Ok(()) => {
                 self.state = left;
                 self.state.next += 1;
-                self.history.push_reserved(yes);
+                append(&mut self.history, &mut self.lent, yes);
                 Ok(accepted)
             }
             Err(_) => {
                 self.state.next += 1;
-                self.history.push_reserved(no);
+                append(&mut self.history, &mut self.lent, no);
                 Ok(refused)
             }
         }
@@ -611,19 +769,22 @@ impl<P: Provider> PlainRegistry<P> {
 
     /// Appends an entry by which something goes, and stops each instance that goes with it.
     fn take_down(&mut self, caller: u64, call: Call, going: &Going) -> Reply
-        requires step { IsNext (fixed_of P.facts self.old) self.old.entries (record { caller = caller; call = call; reply = Reply.Done }) }
-        requires takes { Takes (map P.facts self.old.boxes) (state_of P.facts self.old) (record { caller = caller; call = call; reply = Reply.Done }) going.now }
-        requires room { let s = state_of P.facts self.old in giving_back (without_going s going.now) + 1 ≤ giving_back s }
+        requires step { IsNext (fixed_of P.facts self.old) self.old.entries (record { caller = caller; call = call; reply = answer_of going.now }) }
+        requires takes { Takes (map P.facts self.old.boxes) (state_of P.facts self.old) (record { caller = caller; call = call; reply = answer_of going.now }) going.now }
+        requires room { let s = state_of P.facts self.old in giving_back (without_going s going.now) + 1 ≤ giving_back s + returned_by going.now }
+        requires returned { let lent = lent_after self.old.entries in
+            length (lent_by lent caller call (answer_of going.now)) + returned_by going.now ≤ length lent }
         ensures entry { self.new.entries ≡ self.old.entries ++ record { caller = caller; call = call; reply = result } ∷ [] }
         ensures fixed { fixed_of P.facts self.new ≡ fixed_of P.facts self.old }
     {
         stop_going(&mut self.boxes, &self.state, going);
         take_out(self.alloc, &mut self.state, going);
+        self.lent -= returned(going);
         self.history.push_reserved(Entry {
             caller,
             call,
-            reply: Reply::Done,
+            reply: answer(going),
         });
-        Reply::Done
+        answer(going)
     }
 }

@@ -1,7 +1,7 @@
 ghost use Rattle.std.specs.Prelude.{◌≡◌, ◌++◌, OnOk, OnErr, codes};
 ghost use Rattle.std.specs.Fmt.{decimal};
 ghost use Rattle.ossl_property.specs.Printed.{printed_query};
-ghost use Rattle.ossl_calls.specs.Text.{call_text, reply_text, entry_text, inner_text, operation_text};
+ghost use Rattle.ossl_calls.specs.Text.{call_text, reply_text, entry_text, inner_text, operation_text, retain_text};
 
 use crate::call::{Call, Entry, Reply};
 use ossl_base::digits::put_decimal;
@@ -41,11 +41,25 @@ fn operation_name(op: Operation) -> &'static [u8]
     }
 }
 
+/// What stands behind a load that keeps the fallback.
+fn retain_word(retain: bool) -> &'static [u8]
+    ensures { result.now ≡ retain_text retain }
+{
+    if retain { b" retain" } else { b"" }
+}
+
 /// Appends the text of a call.
 pub fn put_call(alloc: Global, out: &mut Vec<u8>, call: &Call) -> Result<(), AllocError>
     ensures { OnOk result (out.new.items ≡ out.old.items ++ call_text call.now) }
 {
     match call {
+        Call::Load { lib, name, retain } => {
+            put_numbered(alloc, out, b"load ", *lib)?;
+            out.extend_from_slice(b" ")?;
+            out.extend_from_slice(name.as_slice())?;
+            out.extend_from_slice(retain_word(*retain))
+        }
+        Call::Unload { token } => put_numbered(alloc, out, b"unload ", *token),
         Call::SetDefault { lib, query } => {
             put_numbered(alloc, out, b"default ", *lib)?;
             put_query(alloc, out, query)
@@ -63,6 +77,8 @@ pub fn put_call(alloc: Global, out: &mut Vec<u8>, call: &Call) -> Result<(), All
             out.extend_from_slice(name.as_slice())?;
             put_query(alloc, out, query)
         }
+        Call::UpRef { handle } => put_numbered(alloc, out, b"upref ", *handle),
+        Call::Free { handle } => put_numbered(alloc, out, b"free ", *handle),
         Call::NewCtx {
             handle,
             inner,
@@ -72,7 +88,6 @@ pub fn put_call(alloc: Global, out: &mut Vec<u8>, call: &Call) -> Result<(), All
             put_inner(alloc, out, *inner)?;
             put_numbered(alloc, out, b" ", *key_len)
         }
-        Call::Free { handle } => put_numbered(alloc, out, b"free ", *handle),
         Call::FreeCtx { handle } => put_numbered(alloc, out, b"freectx ", *handle),
         Call::CloseLib { lib } => put_numbered(alloc, out, b"closelib ", *lib),
     }
@@ -103,6 +118,14 @@ pub fn put_reply(alloc: Global, out: &mut Vec<u8>, reply: &Reply) -> Result<(), 
     ensures { OnOk result (out.new.items ≡ out.old.items ++ reply_text reply.now) }
 {
     match reply {
+        Reply::Loaded {
+            number: _,
+            instance,
+            skipped,
+        } => {
+            put_numbered(alloc, out, b"ok ", *instance)?;
+            put_numbered(alloc, out, b" skipped ", *skipped)
+        }
         Reply::Fetched {
             number: _,
             provider,
@@ -117,6 +140,7 @@ pub fn put_reply(alloc: Global, out: &mut Vec<u8>, reply: &Reply) -> Result<(), 
         }
         Reply::Made { number: _ } | Reply::Done => out.extend_from_slice(b"ok"),
         Reply::NoLib => out.extend_from_slice(b"no context"),
+        Reply::NoProvider => out.extend_from_slice(b"no provider"),
         Reply::StartRefused { provider } => {
             out.extend_from_slice(b"start refused ")?;
             out.extend_from_slice(provider.as_slice())

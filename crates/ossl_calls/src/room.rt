@@ -1,7 +1,7 @@
-ghost use Rattle.std.specs.Prelude.{◌≡◌, ◌≤◌, ◌<◌, ◌+◌, ◌^◌, OnOk, vec_len, vec_capacity};
-ghost use Rattle.ossl_calls.specs.Sound.{open_count, giving_back};
+ghost use Rattle.std.specs.Prelude.{◌≡◌, ◌≤◌, ◌<◌, ◌+◌, ◌-◌, ◌^◌, ◌++◌, ◌∷◌, [], OnOk, vec_len, vec_capacity};
+ghost use Rattle.ossl_calls.specs.Sound.{open_count, giving_back, lent_with};
 
-use crate::call::Entry;
+use crate::call::{Entry, Reply};
 use crate::state::{LibCtx, State};
 use std::alloc::AllocError;
 
@@ -15,6 +15,29 @@ fn count_open(libs: &[LibCtx]) -> usize
         }
     }
     count
+}
+
+/// How many activations a reply hands out.
+fn lent_by_reply(reply: &Reply) -> usize
+    ensures { result ≡ lent_with reply.now }
+{
+    match reply {
+        Reply::Loaded { .. } => 1,
+        _ => 0,
+    }
+}
+
+/// Appends an entry to a history that has room, and counts the activation that it may hand out.
+pub fn append(history: &mut Vec<Entry>, lent: &mut usize, entry: Entry)
+    requires room { vec_len history.old < vec_capacity history.old }
+    requires few { lent.old < 2 ^ 64 - 1 }
+    ensures items { history.new.items ≡ history.old.items ++ entry ∷ [] }
+    ensures len { vec_len history.new ≡ vec_len history.old + 1 }
+    ensures capacity { vec_capacity history.new ≡ vec_capacity history.old }
+    ensures lent { lent.new ≡ lent.old + lent_with entry.reply }
+{
+    *lent += lent_by_reply(&entry.reply);
+    history.push_reserved(entry);
 }
 
 /// Makes room in a history for so many entries more, beside those by which all that a state holds is given back.

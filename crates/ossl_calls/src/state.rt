@@ -109,9 +109,23 @@ pub struct Scored {
     pub choice: Choice,
 }
 
-/// What goes from a state: a live element that its token names, or all activations of a library context that closes.
+/// What goes from a state.
 #[derive(Debug, Clone, Copy)]
 pub enum Going {
-    Element { token: u64 },
-    Library { lib: usize },
+    /// The live element that a token names.
+    Element {
+        token: u64,
+    },
+    /// An activation of a library context, in which one box may stay active for the fallback.
+    Activation {
+        lib: usize,
+        token: u64,
+        kept: Option<usize>,
+    },
+    /// Nothing: the library context of an activation has closed before.
+    Nothing,
+    /// All activations of a library context that closes.
+    Library {
+        lib: usize,
+    },
 }

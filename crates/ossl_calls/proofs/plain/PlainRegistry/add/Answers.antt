@@ -7,6 +7,7 @@ use Rattle.ossl_calls.specs.History.{Fixed, IsNext, state_after}
 use Rattle.ossl_calls.specs.Step.{with_element}
 use Rattle.std.proofs.lemmas.List.{length_push}
 use Rattle.ossl_calls.proofs.EventLaws.{IsKept-keeps, kept-next}
+use Rattle.ossl_calls.proofs.RoomLaws.{lent-more, lent_with-few}
 use Rattle.ossl_calls.proofs.plain.PlainRegistry.add.Goals as goal
 
 pub overflow_add-self : goal.overflow_add-self
@@ -27,4 +28,8 @@ invariant_of-self-2 g c =
     let here : Keeps fixed.facts (state_after fixed inside.history.items) e (with_element inside.state c.args.made) = rw c.self.invariant.0.is_after keeps in
     let kept = IsKept-keeps fixed sheets inside.state inside.history.items e c.self.invariant.0 next (with_element inside.state c.args.made) here in
     let longer = length_push inside.state.live c.args.made in
-    (rw (c.push_reserved.ensures.items, c.in_ok-reserve_room.ensures.items, c.in_ok-push.ensures.ok) kept, rw c.in_ok-push.ensures.ok (omega (arith, longer, c.push_reserved.ensures.len, c.push_reserved.ensures.capacity, c.in_ok-reserve_room.ensures.ok)))
+    let few = lent-more inside.history.items e inside.lent c.self.invariant.1 in (
+      rw (c.append.ensures.items, c.in_ok-reserve_room.ensures.items, c.in_ok-push.ensures.ok) kept,
+      rw (c.append.ensures.items, c.in_ok-reserve_room.ensures.items, c.append.ensures.lent) few,
+      rw c.in_ok-push.ensures.ok (omega (arith, longer, lent_with-few c.args.reply, c.append.ensures.lent, c.append.ensures.len, c.append.ensures.capacity, c.in_ok-reserve_room.ensures.ok)),
+    )

@@ -5,6 +5,7 @@ use Rattle.ossl_calls.specs.declared.call.Reply.{Reply}
 use Rattle.ossl_calls.specs.Events.{Keeps}
 use Rattle.ossl_calls.specs.History.{Fixed, IsNext, state_after}
 use Rattle.ossl_calls.proofs.EventLaws.{IsKept-keeps, kept-next}
+use Rattle.ossl_calls.proofs.RoomLaws.{lent-more, lent_with-few}
 use Rattle.ossl_calls.proofs.plain.PlainRegistry.note.Goals as goal
 
 pub overflow_add-self : goal.overflow_add-self
@@ -24,4 +25,8 @@ invariant_of-self-2 g c =
     let keeps : Keeps fixed.facts (state_after fixed inside.history.items) e (state_after fixed inside.history.items) = rw (← c.self.view_is) at c.requires.keeps in
     let here : Keeps fixed.facts (state_after fixed inside.history.items) e inside.state = rw c.self.invariant.0.is_after keeps in
     let kept = IsKept-keeps fixed sheets inside.state inside.history.items e c.self.invariant.0 next inside.state here in
-    (rw (c.push_reserved.ensures.items, c.in_ok-reserve_room.ensures.items) kept, omega (arith, c.push_reserved.ensures.len, c.push_reserved.ensures.capacity, c.in_ok-reserve_room.ensures.ok))
+    let few = lent-more inside.history.items e inside.lent c.self.invariant.1 in (
+      rw (c.append.ensures.items, c.in_ok-reserve_room.ensures.items) kept,
+      rw (c.append.ensures.items, c.in_ok-reserve_room.ensures.items, c.append.ensures.lent) few,
+      omega (arith, lent_with-few c.args.reply, c.append.ensures.lent, c.append.ensures.len, c.append.ensures.capacity, c.in_ok-reserve_room.ensures.ok),
+    )

@@ -10,5 +10,6 @@ invariant_of-result g c =
       rw (c.in-Ok-open_state.ensures, c.reserve_room.ensures.items, c.new-history.ensures.items)
           (IsKept-opening fixed sheets c.requires.catalogue c.requires.few
           (λ k below. rw (c.in-Ok.ensures.counts, c.as_slice.ensures.value) (faults-get_or g.P.Provider.sheet c.args.catalogue.items k below)) c.in-Ok.ensures.fit),
+      rw (c.reserve_room.ensures.items, c.new-history.ensures.items) (omega arith),
       omega (arith, c.in-Ok-reserve_room.ensures.ok),
     )

@@ -7,6 +7,7 @@ use Rattle.ossl_calls.specs.History.{Fixed, IsNext, state_after}
 use Rattle.ossl_calls.specs.Sound.{giving_back}
 use Rattle.std.proofs.Common.{◌≤◌, ◌+◌}
 use Rattle.ossl_calls.proofs.EventLaws.{IsKept-keeps, kept-next}
+use Rattle.ossl_calls.proofs.RoomLaws.{lent-more, lent_with-few}
 use Rattle.ossl_calls.proofs.plain.PlainRegistry.put.Goals as goal
 
 pub overflow_add-self : goal.overflow_add-self
@@ -29,4 +30,8 @@ invariant_of-self-2 g c =
     let kept = IsKept-keeps fixed sheets inside.state inside.history.items e c.self.invariant.0 next c.args.left keeps in
     let bound : giving_back c.args.left ≤ giving_back (state_after fixed inside.history.items) + 1 = rw (← c.self.view_is) at c.requires.room in
     let room : giving_back c.args.left ≤ giving_back inside.state + 1 = rw c.self.invariant.0.is_after bound in
-    (rw (c.push_reserved.ensures.items, c.in_ok-reserve_room.ensures.items) kept, omega (arith, room, c.push_reserved.ensures.len, c.push_reserved.ensures.capacity, c.in_ok-reserve_room.ensures.ok))
+    let few = lent-more inside.history.items e inside.lent c.self.invariant.1 in (
+      rw (c.append.ensures.items, c.in_ok-reserve_room.ensures.items) kept,
+      rw (c.append.ensures.items, c.in_ok-reserve_room.ensures.items, c.append.ensures.lent) few,
+      omega (arith, room, lent_with-few c.args.reply, c.append.ensures.lent, c.append.ensures.len, c.append.ensures.capacity, c.in_ok-reserve_room.ensures.ok),
+    )

@@ -8,7 +8,7 @@ use Rattle.ossl_calls.specs.History.{Fixed, IsNext, state_after}
 use Rattle.ossl_calls.specs.Step.{with_default}
 use Rattle.ossl_calls.proofs.EventLaws.{IsKept-keeps, kept-next, kept-sound}
 use Rattle.ossl_calls.proofs.FetchLaws.{default-keeps}
-use Rattle.ossl_calls.proofs.RoomLaws.{default-room}
+use Rattle.ossl_calls.proofs.RoomLaws.{default-room, lent-more}
 use Rattle.ossl_calls.proofs.plain.PlainRegistry.put_default.Goals as goal
 
 pub overflow_add-self : goal.overflow_add-self
@@ -39,7 +39,9 @@ invariant_of-self-2 g c =
     let here : Keeps fixed.facts (state_after fixed inside.history.items) e left =
     rw (c.requires.is, ← c.self.invariant.0.is_after) (default-keeps fixed.facts inside.state c.args.caller c.args.lib c.args.default (omega (arith, lib, sound.instances.contexts))) in
     let kept = IsKept-keeps fixed sheets inside.state inside.history.items e c.self.invariant.0 next left here in
-    let room = default-room inside.state c.args.lib c.args.default in (
-      rw (c.push_reserved.ensures.items, c.set_default.ensures, c.in_ok-reserve_room.ensures.items) kept,
-      rw c.set_default.ensures (omega (arith, room, c.push_reserved.ensures.len, c.push_reserved.ensures.capacity, c.in_ok-reserve_room.ensures.ok)),
+    let room = default-room inside.state c.args.lib c.args.default in
+    let few = lent-more inside.history.items e inside.lent c.self.invariant.1 in (
+      rw (c.append.ensures.items, c.set_default.ensures, c.in_ok-reserve_room.ensures.items) kept,
+      rw (c.append.ensures.items, c.in_ok-reserve_room.ensures.items, c.append.ensures.lent) few,
+      rw c.set_default.ensures (omega (arith, room, c.append.ensures.lent, c.append.ensures.len, c.append.ensures.capacity, c.in_ok-reserve_room.ensures.ok)),
     )

@@ -12,6 +12,7 @@ use Rattle.ossl_calls.specs.History.{Fixed, IsNext, state_after}
 use Rattle.ossl_calls.specs.Sound.{giving_back}
 use Rattle.ossl_calls.proofs.EventLaws.{IsKept-born, IsKept-refused, kept-next, may_start, placed}
 use Rattle.ossl_calls.proofs.UpLaws.{same_length}
+use Rattle.ossl_calls.proofs.RoomLaws.{lent-more, lent_with-few}
 use Rattle.ossl_calls.proofs.plain.PlainRegistry.start.Goals as goal
 
 pub start_at-requires-clause-fresh : goal.start_at-requires-clause-fresh
@@ -60,9 +61,12 @@ invariant_of-self-in-Ok-2 g c =
     simp length-map (same_length g.P.Provider.facts c.start_at.new.boxes.items inside.boxes.items c.start_at.ensures.facts) in
     let kept = IsKept-born fixed sheets inside.state inside.history.items e c.self.invariant.0 next (map g.P.Provider.sheet c.start_at.new.boxes.items) c.args.left b bears same changed kept_length in
     let bound : giving_back c.args.left ≤ giving_back (state_after fixed inside.history.items) + 1 = rw (← c.self.view_is) at c.requires.room in
-    let room : giving_back c.args.left ≤ giving_back inside.state + 1 = rw c.self.invariant.0.is_after bound in (
-      rw (c.start_at.ensures.facts, c.push_reserved.ensures.items, c.in_ok-reserve_room.ensures.items, c.in_ok-copy.ensures, c.in_ok-copy-2.ensures) kept,
-      omega (arith, room, c.push_reserved.ensures.len, c.push_reserved.ensures.capacity, c.in_ok-reserve_room.ensures.ok),
+    let room : giving_back c.args.left ≤ giving_back inside.state + 1 = rw c.self.invariant.0.is_after bound in
+    let few = lent-more inside.history.items e inside.lent c.self.invariant.1 in
+    let lent = rw c.in_ok-copy-2.ensures at c.append.ensures.lent in (
+      rw (c.start_at.ensures.facts, c.append.ensures.items, c.in_ok-reserve_room.ensures.items, c.in_ok-copy.ensures, c.in_ok-copy-2.ensures) kept,
+      rw (c.append.ensures.items, c.in_ok-reserve_room.ensures.items, c.in_ok-copy.ensures, c.in_ok-copy-2.ensures, lent) few,
+      omega (arith, room, lent_with-few c.args.accepted, lent, c.append.ensures.len, c.append.ensures.capacity, c.in_ok-reserve_room.ensures.ok),
     )
 
 pub invariant_of-self-in-Err-1 : goal.invariant_of-self-in-Err-1
@@ -79,9 +83,12 @@ invariant_of-self-in-Err-1 g c =
     let same : length fixed.facts ≡ length sheets = simp length-map in
     let kept_length : length (map g.P.Provider.sheet c.start_at.new.boxes.items) ≡ length sheets =
     simp length-map (same_length g.P.Provider.facts c.start_at.new.boxes.items inside.boxes.items c.start_at.ensures.facts) in
-    let kept = IsKept-refused fixed sheets inside.state inside.history.items e c.self.invariant.0 step (map g.P.Provider.sheet c.start_at.new.boxes.items) c.args.place cause same here c.in-Err.ensures.err kept_length in (
-      rw (c.start_at.ensures.facts, c.push_reserved-in-Err.ensures.items, c.in_ok-reserve_room.ensures.items, c.in_ok-copy-3.ensures) kept,
-      omega (arith, c.push_reserved-in-Err.ensures.len, c.push_reserved-in-Err.ensures.capacity, c.in_ok-reserve_room.ensures.ok),
+    let kept = IsKept-refused fixed sheets inside.state inside.history.items e c.self.invariant.0 step (map g.P.Provider.sheet c.start_at.new.boxes.items) c.args.place cause same here c.in-Err.ensures.err kept_length in
+    let few = lent-more inside.history.items e inside.lent c.self.invariant.1 in
+    let lent = rw c.in_ok-copy-3.ensures at c.append-in-Err.ensures.lent in (
+      rw (c.start_at.ensures.facts, c.append-in-Err.ensures.items, c.in_ok-reserve_room.ensures.items, c.in_ok-copy-3.ensures) kept,
+      rw (c.append-in-Err.ensures.items, c.in_ok-reserve_room.ensures.items, c.in_ok-copy-3.ensures, lent) few,
+      omega (arith, lent_with-few c.args.refused, lent, c.append-in-Err.ensures.len, c.append-in-Err.ensures.capacity, c.in_ok-reserve_room.ensures.ok),
     )
 
 pub overflow_add-self : goal.overflow_add-self

@@ -3,12 +3,12 @@ use Rattle.std.proofs.lemmas.List.{length-map}
 use Rattle.ossl_base.specs.declared.entry.Entry.{Entry}
 use Rattle.ossl_calls.specs.declared.call.Call.{Call}
 use Rattle.ossl_calls.specs.declared.call.Reply.{Reply}
-use Rattle.ossl_calls.specs.declared.call.Reply.TheVariants.{Done}
 use Rattle.ossl_calls.specs.Events.{Takes}
-use Rattle.ossl_calls.specs.Going.{without_going}
+use Rattle.ossl_calls.specs.Going.{answer_of, returned_by, without_going}
 use Rattle.ossl_calls.specs.History.{Fixed, IsNext, state_after}
-use Rattle.ossl_calls.specs.Sound.{giving_back}
+use Rattle.ossl_calls.specs.Sound.{giving_back, lent_after, lent_by}
 use Rattle.ossl_calls.proofs.EventLaws.{IsKept-takes, kept-next, kept-sound}
+use Rattle.ossl_calls.proofs.TokenLaws.{lent-push}
 use Rattle.ossl_calls.proofs.UpLaws.{same_length}
 use Rattle.ossl_calls.proofs.plain.PlainRegistry.take_down.Goals as goal
 
@@ -38,15 +38,17 @@ invariant_of-self g c =
     let fixed : Fixed = record { facts = map g.P.Provider.facts inside.boxes.items; contexts = inside.contexts; opened = inside.opened.items } in
     let sheets = map g.P.Provider.sheet inside.boxes.items in
     let going = c.args.going.now in
-    let e : Entry Call Reply = record { caller = c.args.caller; call = c.args.call; reply = Done } in
+    let e : Entry Call Reply = record { caller = c.args.caller; call = c.args.call; reply = answer_of going } in
     let next : IsNext fixed inside.history.items e = rw (← c.self.view_is) at c.requires.step in
     let takes : Takes fixed.facts (state_after fixed inside.history.items) e going = rw (← c.self.view_is) at c.requires.takes in
-    let bound : giving_back (without_going (state_after fixed inside.history.items) going) + 1 ≤ giving_back (state_after fixed inside.history.items) = rw (← c.self.view_is) at c.requires.room in
-    let room : giving_back (without_going inside.state going) + 1 ≤ giving_back inside.state = rw c.self.invariant.0.is_after bound in
+    let bound : giving_back (without_going (state_after fixed inside.history.items) going) + 1 ≤ giving_back (state_after fixed inside.history.items) + returned_by going = rw (← c.self.view_is) at c.requires.room in
+    let room : giving_back (without_going inside.state going) + 1 ≤ giving_back inside.state + returned_by going = rw c.self.invariant.0.is_after bound in
+    let lent : length (lent_by (lent_after inside.history.items) c.args.caller c.args.call (answer_of going)) + returned_by going ≤ length (lent_after inside.history.items) = rw (← c.self.view_is) at c.requires.returned in
     let same : length (map g.P.Provider.sheet c.stop_going.new.boxes.items) ≡ length sheets =
     simp length-map (same_length g.P.Provider.facts c.stop_going.new.boxes.items inside.boxes.items c.stop_going.ensures.facts) in
     let kept = IsKept-takes fixed sheets inside.state inside.history.items e c.self.invariant.0 next (map g.P.Provider.sheet c.stop_going.new.boxes.items) going takes same
     (λ k below. c.stop_going.ensures.sheets k (omega (arith, simp length-map at below, inside.boxes.ok.0))) in (
-      rw (c.stop_going.ensures.facts, c.take_out.ensures, c.push_reserved.ensures.items) kept,
-      rw c.take_out.ensures (omega (arith, room, c.self.invariant.1, c.push_reserved.ensures.len, c.push_reserved.ensures.capacity)),
+      rw (c.stop_going.ensures.facts, c.take_out.ensures, c.push_reserved.ensures.items, c.answer.ensures) kept,
+      rw (c.push_reserved.ensures.items, c.answer.ensures, lent-push) (omega (arith, lent, c.returned.ensures, c.self.invariant.1)),
+      rw c.take_out.ensures (omega (arith, room, lent, c.returned.ensures, c.self.invariant.1, c.self.invariant.2, c.push_reserved.ensures.len, c.push_reserved.ensures.capacity)),
     )

@@ -1,0 +1,11 @@
+use Rattle.std.proofs.Common.{map, sym, ◌∙◌}
+use Rattle.ossl_calls.specs.Registry.{state_of}
+use Rattle.ossl_calls.proofs.LoadLaws.{second-keeps}
+use Rattle.ossl_calls.proofs.plain.PlainRegistry.up_ref.Goals as goal
+
+pub add-requires-clause-keeps : goal.add-requires-clause-keeps
+add-requires-clause-keeps g c κs within =
+    let r = c.args.self.now in
+    let made = c.in-Some.made in
+    second-keeps (map g.P.Provider.facts r.boxes) (state_of g.P.Provider.facts r) c.args.caller c.args.handle c.next-number.result made
+    (sym c.in_ok-made.ensures ∙ c.in-Some.is)
