@@ -33,11 +33,7 @@ closed_down fixed s c (CloseLib l) NoLib is none one h a =
     let zero_lib : l ≡ 0 = cc in
     let closed : (lib_at s 0).is_open ≡ false = rw zero_lib at a in
     absurd (true≢false (sym h.open_lib ∙ closed))
-closed_down fixed s c (CloseLib l) (StartRefused p) is none one h a = absurd a
-closed_down fixed s c (CloseLib l) Unsupported is none one h a = absurd a
-closed_down fixed s c (CloseLib l) NotAdmitted is none one h a = absurd a
-closed_down fixed s c (CloseLib l) (Made n) is none one h a = absurd a
-closed_down fixed s c (CloseLib l) (Fetched n p i r code) is none one h a = absurd a
+closed_down fixed s c (CloseLib l) reply is none one h a = absurd a
 closed_down fixed s c call reply is none one h a = cc
 
 -- nothing is up after the line and the closing

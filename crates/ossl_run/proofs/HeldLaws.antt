@@ -99,9 +99,7 @@ module _ (fixed : Fixed) (s : State) (past : List (Entry Call Reply)) (sound : I
   fetch_held c algorithm query NoLib a few = few
   fetch_held c algorithm query (StartRefused p) a few = few
   fetch_held c algorithm query Unsupported a few = rw ((after_fallback-live fixed.facts s 0).0) few
-  fetch_held c algorithm query Done a few = absurd a
-  fetch_held c algorithm query (Made n) a few = absurd a
-  fetch_held c algorithm query NotAdmitted a few = absurd a
+  fetch_held c algorithm query reply a few = absurd a
 
   context_held : (c n : ℕ) (reply : Reply) → Answers fixed.facts s c (NewCtx n None 0) reply → length s.live ≤ 1 →
       length (left_by fixed.facts s c (NewCtx n None 0) reply).live ≤ held_built (reply ∷ [])
@@ -109,32 +107,18 @@ module _ (fixed : Fixed) (s : State) (past : List (Entry Call Reply)) (sound : I
       let method = admitted_some fixed.facts 0 (element_of s n) a.0 in
       rw (method.1) (omega (arith, few, length_push s.live (new_context s c None method.0)))
   context_held c n NotAdmitted a few = few
-  context_held c n NoLib a few = absurd a
-  context_held c n (StartRefused q) a few = absurd a
-  context_held c n Unsupported a few = absurd a
-  context_held c n Done a few = absurd a
-  context_held c n (Fetched n' p i r code) a few = absurd a
+  context_held c n reply a few = absurd a
 
   -- giving the operation context back, and giving the method back
   context_gone : (c t : ℕ) (reply : Reply) → owns (entries_of c past) t context_token ≡ true → Answers fixed.facts s c (FreeCtx t) reply →
       length (left_by fixed.facts s c (FreeCtx t) reply).live + 1 ≤ length s.live
   context_gone c t Done own a = omega (arith, fewer_live Context c t (sound.owned c t context_token own))
-  context_gone c t NoLib own a = absurd a
-  context_gone c t (StartRefused q) own a = absurd a
-  context_gone c t Unsupported own a = absurd a
-  context_gone c t NotAdmitted own a = absurd a
-  context_gone c t (Made m) own a = absurd a
-  context_gone c t (Fetched n p i r code) own a = absurd a
+  context_gone c t reply own a = absurd a
 
   method_gone : (c t : ℕ) (reply : Reply) → owns (entries_of c past) t method_token ≡ true → Answers fixed.facts s c (Free t) reply →
       length (left_by fixed.facts s c (Free t) reply).live + 1 ≤ length s.live
   method_gone c t Done own a = omega (arith, fewer_live Method c t (sound.owned c t method_token own))
-  method_gone c t NoLib own a = absurd a
-  method_gone c t (StartRefused q) own a = absurd a
-  method_gone c t Unsupported own a = absurd a
-  method_gone c t NotAdmitted own a = absurd a
-  method_gone c t (Made m) own a = absurd a
-  method_gone c t (Fetched n p i r code) own a = absurd a
+  method_gone c t reply own a = absurd a
 
   -- what the line's next call leaves
   built_held : (c n : ℕ) (rs : List Reply) (call : Call) (reply : Reply) → next_built n rs ≡ Some call → owns_named (entries_of c past) call ≡ true →
