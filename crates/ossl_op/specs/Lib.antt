@@ -3,3 +3,4 @@ pub mod Tables
 pub mod Begins
 pub mod Standard
 pub mod Laws
+pub use Rattle.ossl_modes.specs.declared.kinds.FinishRefused

@@ -7,3 +7,11 @@ pub mod Table
 pub mod Judging
 pub mod Counts
 pub mod Fits
+pub mod Given
+pub mod Bindings
+pub mod Outcome
+pub mod Course
+pub mod Whole
+pub mod Commands
+pub mod Held
+pub mod Caller

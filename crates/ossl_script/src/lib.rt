@@ -3,16 +3,22 @@
 //! Judging a word and reading a number grow with their own bytes.
 #![tactic(auto)]
 
+mod caller;
 mod command;
 mod data;
+mod held;
 mod kind;
 mod limit;
+mod outcome;
 mod table;
 mod word;
 
+pub use caller::{LineResult, Next};
 pub use command::{Argument, Arguments, Command, Data, Line, Verb};
+pub use held::{Held, TokenKind};
 pub use kind::{LineKind, ScriptRefused};
 pub use limit::Limit;
+pub use outcome::Outcome;
 pub use table::operation;
 pub use word::{caller_number, is_name, number};
 

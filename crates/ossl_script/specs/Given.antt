@@ -1,0 +1,76 @@
+-- What the words behind the fixed ones give a command: the bytes of its data, and its options with their defaults.
+use Rattle.std.specs.Prelude.{ℕ, Bool, true, Option, Some, None, List, [], fold, flat_map, replicate}
+use Rattle.ossl_codes.specs.declared.code.Operation.{Operation}
+use Rattle.ossl_codes.specs.declared.code.Operation.TheVariants as operations
+use Rattle.ossl_codes.specs.declared.param.Direction.TheVariants.{Encrypt}
+use Rattle.ossl_codes.specs.declared.param.KdfMode.TheVariants.{Both}
+use Rattle.ossl_op.specs.declared.params.Params.{Params}
+use Rattle.ossl_script.specs.declared.command.Argument.{Argument}
+use Rattle.ossl_script.specs.declared.command.Argument.TheVariants.{Piece, Retain, Lib, Digest, Cipher, Inner, Key, Iv, Direction as Way, Pad, Salt, Info, Mode, Len}
+use Rattle.ossl_script.specs.declared.command.Data.{Data}
+use Rattle.ossl_script.specs.declared.command.Data.TheVariants.{Bytes, Copies, File}
+use Rattle.ossl_script.specs.declared.command.Line.{Line}
+use Rattle.ossl_script.specs.Counts.{files_of, for_file}
+
+-- what the files hold, by their names
+abbrev pub Content : Type 0
+Content = List ℕ → List ℕ
+
+-- the contents of the files that a batch names, in the order of their first naming
+abbrev pub content_by : List Line → List (List ℕ) → Content
+content_by lines contents = for_file [] (files_of lines) contents
+
+-- the bytes that data stands for
+abbrev pub data_bytes : Content → Data → List ℕ
+data_bytes content (Bytes bytes) = bytes
+data_bytes content (Copies count byte) = replicate count byte
+data_bytes content (File name) = content name
+
+abbrev pub piece_bytes : Content → Argument → List ℕ
+piece_bytes content (Piece given) = data_bytes content given
+piece_bytes content argument = []
+
+-- the bytes of all pieces, joined
+abbrev pub fed_by : Content → List Argument → List ℕ
+fed_by content arguments = flat_map (piece_bytes content) arguments
+
+-- what the options of a command say
+pub record Options : Type 0 where
+  -- the number of its library context
+  pub lib : ℕ
+  -- the inner algorithm that it is to fetch, and for which operation
+  pub algorithm : Option (Operation × List ℕ)
+  -- the name of the inner method that it uses
+  pub method : Option (List ℕ)
+  -- the parameters of its operation
+  pub params : Params
+
+-- without options: library context 0, no inner algorithm, encryption with padding, both steps of a derivation, and no other parameter
+abbrev pub default_options : Options
+default_options = record {
+  lib = 0;
+  algorithm = None;
+  method = None;
+  params = record { direction = Encrypt; pad = true; key = None; iv = None; salt = None; info = None; mode = Both; len = None };
+}
+
+-- one more option
+abbrev pub with_argument : Content → Options → Argument → Options
+with_argument content options (Piece given) = options
+with_argument content options Retain = options
+with_argument content options (Lib n) = record options { lib = n }
+with_argument content options (Digest name) = record options { algorithm = Some (operations.Digest, name) }
+with_argument content options (Cipher name) = record options { algorithm = Some (operations.Cipher, name) }
+with_argument content options (Inner name) = record options { method = Some name }
+with_argument content options (Key given) = record options { params = record (options.params) { key = Some (data_bytes content given) } }
+with_argument content options (Iv given) = record options { params = record (options.params) { iv = Some (data_bytes content given) } }
+with_argument content options (Way way) = record options { params = record (options.params) { direction = way } }
+with_argument content options (Pad padded) = record options { params = record (options.params) { pad = padded } }
+with_argument content options (Salt given) = record options { params = record (options.params) { salt = Some (data_bytes content given) } }
+with_argument content options (Info given) = record options { params = record (options.params) { info = Some (data_bytes content given) } }
+with_argument content options (Mode mode) = record options { params = record (options.params) { mode = mode } }
+with_argument content options (Len n) = record options { params = record (options.params) { len = Some n } }
+
+-- the options that stand among these words
+abbrev pub options_of : Content → List Argument → Options
+options_of content arguments = fold (with_argument content) default_options arguments
