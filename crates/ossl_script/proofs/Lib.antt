@@ -2,3 +2,5 @@ pub mod WorkedText
 pub mod WorkedCommands
 pub mod WorkedFaults
 pub mod WorkedLimits
+pub mod Runs
+pub mod WorkedSteps
