@@ -13,10 +13,10 @@ use Rattle.ossl_modes.specs.Modes.{unpadded, checked, blocks, next_counter}
 use Rattle.ossl_op.specs.Standard.{standard_result}
 use Rattle.ossl_op.proofs.Examples.{unhex, keyed, with_iv}
 
-abbrev key : List ℕ
+abbrev pub key : List ℕ
 key = unhex (codes "000102030405060708090a0b0c0d0e0f1011121314151617")
 
-abbrev block : List ℕ
+abbrev pub block : List ℕ
 block = unhex (codes "00112233445566778899aabbccddeeff")
 
 -- FIPS 197, C.2
@@ -25,7 +25,7 @@ unfolding sub unsub times power add inv_cipher inv_rounds schedule key_words
 block_back = refl
 
 -- what a padded message of that one block in CBC gives, by its IV
-abbrev by_iv : List ℕ → Result (List ℕ) FinishRefused
+abbrev pub by_iv : List ℕ → Result (List ℕ) FinishRefused
 by_iv iv = standard_result (Aes B192 Cbc) None (record (with_iv key iv) { direction = Decrypt }) (unhex (codes "dda97ca4864cdfe06eaf70a0ec0d7191"))
 
 through_padding : (iv : List ℕ) → by_iv iv ≡ unpadded (add block iv)
@@ -33,32 +33,32 @@ unfolding checked
 through_padding iv = ap (λ block. unpadded (add block iv)) block_back
 
 -- the last byte is 1
-one_byte : by_iv (unhex (codes "000000000000000000000000000000fe")) ≡ Ok (unhex (codes "00112233445566778899aabbccddee"))
+pub one_byte : by_iv (unhex (codes "000000000000000000000000000000fe")) ≡ Ok (unhex (codes "00112233445566778899aabbccddee"))
 unfolding add
 one_byte = through_padding (unhex (codes "000000000000000000000000000000fe"))
 
 -- the last two are 2
-two_bytes : by_iv (unhex (codes "0000000000000000000000000000ecfd")) ≡ Ok (unhex (codes "00112233445566778899aabbccdd"))
+pub two_bytes : by_iv (unhex (codes "0000000000000000000000000000ecfd")) ≡ Ok (unhex (codes "00112233445566778899aabbccdd"))
 unfolding add
 two_bytes = through_padding (unhex (codes "0000000000000000000000000000ecfd"))
 
 -- all sixteen are 16
-whole_block : by_iv (unhex (codes "10013223544576679889baabdccdfeef")) ≡ Ok []
+pub whole_block : by_iv (unhex (codes "10013223544576679889baabdccdfeef")) ≡ Ok []
 unfolding add
 whole_block = through_padding (unhex (codes "10013223544576679889baabdccdfeef"))
 
 -- the last byte is 255
-byte_255 : by_iv (unhex (codes "00000000000000000000000000000000")) ≡ Err BadDecrypt
+pub byte_255 : by_iv (unhex (codes "00000000000000000000000000000000")) ≡ Err BadDecrypt
 unfolding add
 byte_255 = through_padding (unhex (codes "00000000000000000000000000000000"))
 
 -- the last byte is 0
-byte_0 : by_iv (unhex (codes "000000000000000000000000000000ff")) ≡ Err BadDecrypt
+pub byte_0 : by_iv (unhex (codes "000000000000000000000000000000ff")) ≡ Err BadDecrypt
 unfolding add
 byte_0 = through_padding (unhex (codes "000000000000000000000000000000ff"))
 
 -- the last byte is 17
-byte_17 : by_iv (unhex (codes "000000000000000000000000000000ee")) ≡ Err BadDecrypt
+pub byte_17 : by_iv (unhex (codes "000000000000000000000000000000ee")) ≡ Err BadDecrypt
 unfolding add
 byte_17 = through_padding (unhex (codes "000000000000000000000000000000ee"))
 
@@ -74,7 +74,7 @@ unfolding blocks sub times power add cipher rounds schedule key_words
 ecb_block = refl
 
 -- the key and the first block of SP 800-38A, F.1 to F.5
-abbrev vector_key : List ℕ
+abbrev pub vector_key : List ℕ
 vector_key = unhex (codes "2b7e151628aed2a6abf7158809cf4f3c")
 
 abbrev vector_block : List ℕ
@@ -118,7 +118,7 @@ counter_wraps : next_counter (replicate 16 255) ≡ replicate 16 0
 counter_wraps = refl
 
 -- SP 800-38B, D.1: no bytes, and one block
-cmac_of_nothing : standard_result Cmac (Some (Aes B128 Cbc)) (keyed vector_key) [] ≡ Ok (unhex (codes "bb1d6929e95937287fa37d129b756746"))
+pub cmac_of_nothing : standard_result Cmac (Some (Aes B128 Cbc)) (keyed vector_key) [] ≡ Ok (unhex (codes "bb1d6929e95937287fa37d129b756746"))
 unfolding mac_from chained sub times power add cipher rounds schedule key_words
 cmac_of_nothing = refl
 

@@ -1,6 +1,6 @@
 pub mod Examples
 mod BeginRows
-mod ResultRows
-mod BlockRows
+pub mod ResultRows
+pub mod BlockRows
 pub mod ModeLaws
 pub mod CodeLaws

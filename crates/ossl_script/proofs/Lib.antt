@@ -4,3 +4,4 @@ pub mod WorkedFaults
 pub mod WorkedLimits
 pub mod Runs
 pub mod WorkedSteps
+pub mod WorkedWhole

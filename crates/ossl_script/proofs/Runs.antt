@@ -1,8 +1,9 @@
 -- What the worked callers are written with.
-use Rattle.std.proofs.Common.{◌≡◌, ℕ, false, List, [], ◌∷◌}
+use Rattle.std.proofs.Common.{◌≡◌, ℕ, false, List, [], ◌∷◌, ap}
 use Rattle.std.specs.Prelude.{Result, Ok, None, Some, Option}
 use Rattle.ossl_codes.specs.declared.code.Code.{Code}
 use Rattle.ossl_codes.specs.declared.code.Operation.TheVariants as operations
+use Rattle.ossl_op.specs.FinishRefused.{FinishRefused}
 use Rattle.ossl_op.specs.declared.params.Params.{Params}
 use Rattle.ossl_op.specs.Standard.{standard_result}
 use Rattle.ossl_calls.specs.declared.call.Call.{Call}
@@ -58,3 +59,8 @@ finishes number code bytes = line_result number (finished_outcome (standard_resu
 -- likewise of a whole operation, by a method of this provider
 abbrev pub performs : ℕ → List ℕ → Code → Option Code → Params → List ℕ → LineResult
 performs number provider code inner params bytes = line_result number (performed_outcome provider (standard_result code inner params bytes))
+
+-- what is printed of a whole operation where the standard's result is this
+pub printed : (number : ℕ) (provider : List ℕ) {result expected : Result (List ℕ) FinishRefused} → result ≡ expected
+    → line_result number (performed_outcome provider result) ≡ line_result number (performed_outcome provider expected)
+printed number provider same = ap (λ result. line_result number (performed_outcome provider result)) same
