@@ -5,3 +5,4 @@ pub mod WorkedLimits
 pub mod Runs
 pub mod WorkedSteps
 pub mod WorkedWhole
+pub mod HeldLaws

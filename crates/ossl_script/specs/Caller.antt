@@ -1,6 +1,7 @@
 -- What a caller does: from the lines of the batch, what the files hold and the replies that it got so far, its next call with the number of its line,
 -- or the end of its lines; the calls by which it gives back what it then holds; and what is printed of its lines.
-use Rattle.std.specs.Prelude.{ℕ, nat_eq, List, [], ◌∷◌, ◌++◌, filter, fold}
+use Rattle.std.specs.Prelude.{ℕ, ◌≡◌, ⊤, nat_eq, Option, Some, None, List, [], ◌∷◌, ◌++◌, filter, fold}
+use Rattle.ossl_base.specs.declared.entry.Entry.{Entry}
 use Rattle.ossl_calls.specs.declared.call.Call.{Call}
 use Rattle.ossl_calls.specs.declared.call.Reply.{Reply}
 use Rattle.ossl_script.specs.declared.caller.LineResult.{LineResult}
@@ -79,3 +80,13 @@ giving_back lines contents caller replies = give_back_calls (standing_of lines c
 -- what is printed of the lines that are done, each with the number of its line
 abbrev pub results_of : List Line → List (List ℕ) → ℕ → List Reply → List LineResult
 results_of lines contents caller replies = (standing_of lines contents caller replies).told
+
+-- the call that comes next, if one does
+abbrev pub call_in : Next → Option Call
+call_in (nexts.Call line call) = Some call
+call_in nexts.End = None
+
+-- after these replies the entries are, one by one, the caller's next calls
+abbrev pub Follows : List Line → List (List ℕ) → ℕ → List Reply → List (Entry Call Reply) → Type 0
+Follows lines contents caller replies [] = ⊤
+Follows lines contents caller replies (e ∷ es) = (call_in (next_call lines contents caller replies) ≡ Some e.call) × Follows lines contents caller (replies ++ e.reply ∷ []) es

@@ -15,3 +15,4 @@ pub mod Whole
 pub mod Commands
 pub mod Held
 pub mod Caller
+pub mod Laws

@@ -1,0 +1,63 @@
+-- Laws of what callers do.
+use Rattle.std.specs.Prelude.{ℕ, ◌≡◌, Bool, false, List, [], ◌∷◌, ◌++◌, map, option_map}
+use Rattle.ossl_base.specs.declared.entry.Entry.{Entry}
+use Rattle.ossl_calls.specs.declared.call.Call.{Call}
+use Rattle.ossl_calls.specs.declared.call.Call.TheVariants.{Unload, UpRef, Free, NewCtx, FreeCtx}
+use Rattle.ossl_calls.specs.declared.call.Reply.{Reply}
+use Rattle.ossl_calls.specs.declared.call.Reply.TheVariants.{Loaded, Fetched, Made}
+use Rattle.ossl_calls.specs.Tokens.{Token, owns}
+use Rattle.ossl_script.specs.declared.caller.Next.{Next}
+use Rattle.ossl_script.specs.declared.caller.Next.TheVariants as nexts
+use Rattle.ossl_script.specs.declared.command.Line.{Line}
+use Rattle.ossl_script.specs.Caller.{Follows, after_reply, giving_back, lines_of, next_call, results_of, standing_of}
+use Rattle.ossl_script.specs.Counts.{files_of}
+use Rattle.ossl_script.specs.Given.{content_by}
+
+-- a further reply is one step more
+abbrev pub GoesByReply : Type 0
+GoesByReply = (lines : List Line) (contents : List (List ℕ)) (caller : ℕ) (replies : List Reply) (reply : Reply)
+    → standing_of lines contents caller (replies ++ reply ∷ []) ≡ after_reply (content_by lines contents) (standing_of lines contents caller replies) reply
+
+-- where a caller has made its calls, up to any moment, and then gives back, whatever the replies to that, it owns no token
+abbrev pub GivingBackLeavesNone : Type 0
+GivingBackLeavesNone = (lines : List Line) (contents : List (List ℕ)) (caller : ℕ) (made given : List (Entry Call Reply))
+    → Follows lines contents caller [] made
+    → map (λ e. e.call) given ≡ giving_back lines contents caller (map (λ e. e.reply) made)
+    → (t : ℕ) (token : Token) → owns (made ++ given) t token ≡ false
+
+-- a reply with other numbers of tokens and instances
+abbrev pub renumbered : (ℕ → ℕ) → (ℕ → ℕ) → Reply → Reply
+renumbered tokens instances (Loaded n i skipped) = Loaded (tokens n) (instances i) skipped
+renumbered tokens instances (Fetched n p i r code) = Fetched (tokens n) p (instances i) r code
+renumbered tokens instances (Made n) = Made (tokens n)
+renumbered tokens instances reply = reply
+
+-- a call that names tokens by other numbers
+abbrev pub renamed : (ℕ → ℕ) → Call → Call
+renamed tokens (Unload t) = Unload (tokens t)
+renamed tokens (UpRef h) = UpRef (tokens h)
+renamed tokens (Free h) = Free (tokens h)
+renamed tokens (NewCtx h inner len) = NewCtx (tokens h) (option_map tokens inner) len
+renamed tokens (FreeCtx h) = FreeCtx (tokens h)
+renamed tokens call = call
+
+abbrev pub renamed_next : (ℕ → ℕ) → Next → Next
+renamed_next tokens (nexts.Call line call) = nexts.Call line (renamed tokens call)
+renamed_next tokens nexts.End = nexts.End
+
+-- with other numbers in the replies a caller's results are the same, and its calls name its tokens by these
+abbrev pub ResultsNameNoToken : Type 0
+ResultsNameNoToken = (lines : List Line) (contents : List (List ℕ)) (caller : ℕ) (replies : List Reply) (tokens instances : ℕ → ℕ)
+    → let others = map (renumbered tokens instances) replies in
+    (results_of lines contents caller others ≡ results_of lines contents caller replies)
+    × (next_call lines contents caller others ≡ renamed_next tokens (next_call lines contents caller replies))
+
+-- a caller's next call, its results and what it gives back follow from its own lines, what their files hold, and its replies: other callers' lines may be others
+abbrev pub OwnLinesAlone : Type 0
+OwnLinesAlone = (lines others : List Line) (contents other_contents : List (List ℕ)) (caller : ℕ) (replies : List Reply)
+    → lines_of caller others ≡ lines_of caller lines
+    → let files = files_of (lines_of caller lines) in
+    map (content_by others other_contents) files ≡ map (content_by lines contents) files
+    → (next_call others other_contents caller replies ≡ next_call lines contents caller replies)
+    × (results_of others other_contents caller replies ≡ results_of lines contents caller replies)
+    × (giving_back others other_contents caller replies ≡ giving_back lines contents caller replies)
