@@ -6,3 +6,4 @@ pub mod Runs
 pub mod WorkedSteps
 pub mod WorkedWhole
 pub mod HeldLaws
+pub mod RenamingLaws
