@@ -7,3 +7,4 @@ pub mod WorkedSteps
 pub mod WorkedWhole
 pub mod HeldLaws
 pub mod RenamingLaws
+pub mod OwnLaws
