@@ -24,20 +24,16 @@ use Rattle.ossl_script.specs.Commands.{course_of}
 use Rattle.ossl_script.specs.Course.{Course}
 use Rattle.ossl_script.specs.Course.Course.{ask, said}
 use Rattle.ossl_script.specs.Given.{Content, content_by}
-use Rattle.ossl_script.specs.Held.{token_of, handed_out, with_token, with_handed, left_by, held_after, give_back_call, give_back_calls}
-use Rattle.ossl_script.specs.Laws.{GoesByReply, GivingBackLeavesNone}
+use Rattle.ossl_script.specs.Held.{token_of, handed_out, with_token, with_handed, left_by, held_after, give_back_call, give_back_calls, is_held}
+use Rattle.ossl_script.specs.Laws.{GoesByReply, HeldIsOwned, GivingBackLeavesNone}
 
 -- a further reply is one step more
 pub goes_by_reply : GoesByReply
 goes_by_reply lines contents caller replies reply = fold-append (after_reply (content_by lines contents)) (opening (content_by lines contents) (lines_of caller lines)) replies (reply ∷ [])
 
 -- a token stands for this one: giving it back gives this one up
-abbrev pub is_token : Held → ℕ → Token → Bool
+abbrev is_token : Held → ℕ → Token → Bool
 is_token held t token = gives_up_by (give_back_call held) Done t token
-
--- this token is among those held
-abbrev pub is_held : List Held → ℕ → Token → Bool
-is_held held t token = list_any (λ one. is_token one t token) held
 
 -- 1. A step: what is held after an entry is what is owned after it.
 
@@ -86,6 +82,7 @@ with-held one t token (first ∷ held) = at (with-held one t token held) (nat_lt
     swapped true false c = refl
     swapped false true c = refl
     swapped false false c = refl
+
     at : is_held (with_token one held) t token ≡ (is_token one t token || is_held held t token)
         → (below : Bool) → is_held (if below then first ∷ with_token one held else one ∷ first ∷ held) t token ≡ (is_token one t token || (is_token first t token || is_held held t token))
     at rest true = ap (λ b. is_token first t token || b) rest ∙ swapped (is_token one t token) (is_token first t token) (is_held held t token)
@@ -188,6 +185,7 @@ given_back (one ∷ held) (e ∷ given) owned t token calls only =
         by_call Activation call same = rw same refl
         by_call Method call same = rw same refl
         by_call Context call same = rw same refl
+
     left : (is : Bool) → is_token one t token ≡ is → (owned : Bool) → (owned ≡ true → (is_token one t token || is_held held t token) ≡ true)
         → (if is_token one t token then false else owned) ≡ true → is_held held t token ≡ true
     left true same owned only still = absurd (true≢false (sym still ∙ ap (λ b. if b then false else owned) same))
@@ -197,13 +195,15 @@ owns_after-append : (owned : Bool) (es fs : List (Entry Call Reply)) (t : ℕ) (
 owns_after-append owned [] fs t token = refl
 owns_after-append owned (e ∷ es) fs t token = owns_after-append (owns_after_entry owned e t token) es fs t token
 
+-- what a caller holds is what it owns
+pub held_is_owned : HeldIsOwned
+held_is_owned lines contents caller made follows t token =
+    followed lines contents caller [] made t token follows
+    ∙ ap (λ held. owns_after (is_held held t token) made t token) (opening-held (content_by lines contents) (lines_of caller lines))
+
 -- giving back leaves no token, at any moment
 pub giving_back_leaves_none : GivingBackLeavesNone
 giving_back_leaves_none lines contents caller made given follows calls t token =
     owns_after-append false made given t token
-    ∙ given_back (standing_of lines contents caller (map (λ e. e.reply) made)).held given (owns made t token) t token calls (λ owned. held_owned ∙ owned)
-  where
-    none_held : is_held (standing_of lines contents caller []).held t token ≡ false
-    none_held = ap (λ held. is_held held t token) (opening-held (content_by lines contents) (lines_of caller lines))
-    held_owned : is_held (standing_of lines contents caller (map (λ e. e.reply) made)).held t token ≡ owns made t token
-    held_owned = followed lines contents caller [] made t token follows ∙ ap (λ owned. owns_after owned made t token) none_held
+    ∙ given_back (standing_of lines contents caller (map (λ e. e.reply) made)).held given (owns made t token) t token calls
+    (λ owned. held_is_owned lines contents caller made follows t token ∙ owned)

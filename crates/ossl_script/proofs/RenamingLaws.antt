@@ -175,6 +175,7 @@ module _ (f g : ℕ → ℕ) where
             (by_beginning may refused' (ask (calls.NewCtx (f used.token) (option_map f (token_of inner)) (length (bytes_of params.key))) made'))
         by inner (Ok good) = (refl, makes)
         by inner (Err refusal) = refuses refusal
+
         at : (inner : Option Method) → IsSame (begun used inner params refused made) (begun (other_method used) (option_map other_method inner) params refused' made')
         at None = by None (begins used.code None params)
         at (Some second) = by (Some second) (begins used.code (Some second.code) params)

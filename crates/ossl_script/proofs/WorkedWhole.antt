@@ -174,7 +174,6 @@ pub too_long : DoesAll (codes "1 kdf HKDF digest=SHA2-256 key=rep:22:0b len=8161
 unfolding decode_pairs query_said list_at digits
 too_long = refl
 
-
 -- a length of 0 gives no bytes
 pub no_length : DoesAll (codes "1 kdf HKDF digest=SHA2-256 key=text:abc len=0") [] 1 (Fetched 1 (codes "default") 1 26 Hkdf ∷ Fetched 2 (codes "default") 1 0 Sha256 ∷ Made 3 ∷ Done ∷ Done ∷ Done ∷ [])
     (derivation_calls ++ asks 1 (NewCtx 1 (Some 2) 3) ∷ asks 1 (FreeCtx 3) ∷ asks 1 (Free 2) ∷ asks 1 (Free 1) ∷ ends ∷ [])

@@ -1,9 +1,10 @@
 -- The tokens that a caller holds, and how they are given back.
-use Rattle.std.specs.Prelude.{ℕ, nat_lt, not, if◌then◌else◌, Option, Some, None, List, [], ◌∷◌, filter, map}
+use Rattle.std.specs.Prelude.{ℕ, nat_lt, Bool, not, if◌then◌else◌, Option, Some, None, List, [], ◌∷◌, filter, map}
+use Rattle.std.specs.List.{list_any}
 use Rattle.ossl_calls.specs.declared.call.Call.{Call}
 use Rattle.ossl_calls.specs.declared.call.Call.TheVariants.{Load, Unload, Fetch, UpRef, Free, NewCtx, FreeCtx}
 use Rattle.ossl_calls.specs.declared.call.Reply.{Reply}
-use Rattle.ossl_calls.specs.declared.call.Reply.TheVariants.{Loaded, Fetched, Made}
+use Rattle.ossl_calls.specs.declared.call.Reply.TheVariants.{Loaded, Fetched, Made, Done}
 use Rattle.ossl_calls.specs.Tokens.{Token, gives_up_by}
 use Rattle.ossl_calls.specs.Tokens.Token.{activation_token, method_token, context_token}
 use Rattle.ossl_script.specs.declared.held.Held.{Held}
@@ -48,3 +49,7 @@ give_back_call token = elim token.kind [ Activation ↦ Unload token.number | Me
 -- the calls that give these tokens back, in their order
 abbrev pub give_back_calls : List Held → List Call
 give_back_calls held = map give_back_call held
+
+-- a token of this number and kind is among those held: the call that gives it back gives that one up
+abbrev pub is_held : List Held → ℕ → Token → Bool
+is_held held t token = list_any (λ one. gives_up_by (give_back_call one) Done t token) held

@@ -12,11 +12,18 @@ use Rattle.ossl_script.specs.declared.command.Line.{Line}
 use Rattle.ossl_script.specs.Caller.{Follows, after_reply, giving_back, lines_of, next_call, results_of, standing_of}
 use Rattle.ossl_script.specs.Counts.{files_of}
 use Rattle.ossl_script.specs.Given.{content_by}
+use Rattle.ossl_script.specs.Held.{is_held}
 
 -- a further reply is one step more
 abbrev pub GoesByReply : Type 0
 GoesByReply = (lines : List Line) (contents : List (List ℕ)) (caller : ℕ) (replies : List Reply) (reply : Reply)
     → standing_of lines contents caller (replies ++ reply ∷ []) ≡ after_reply (content_by lines contents) (standing_of lines contents caller replies) reply
+
+-- what a caller holds is what it owns by its entries
+abbrev pub HeldIsOwned : Type 0
+HeldIsOwned = (lines : List Line) (contents : List (List ℕ)) (caller : ℕ) (made : List (Entry Call Reply))
+    → Follows lines contents caller [] made
+    → (t : ℕ) (token : Token) → is_held (standing_of lines contents caller (map (λ e. e.reply) made)).held t token ≡ owns made t token
 
 -- where a caller has made its calls, up to any moment, and then gives back, whatever the replies to that, it owns no token
 abbrev pub GivingBackLeavesNone : Type 0

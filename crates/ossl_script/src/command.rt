@@ -161,3 +161,18 @@ pub struct Line {
     pub caller: u64,
     pub command: Command,
 }
+
+impl Line {
+    ghost use Rattle.std.specs.Prelude.{◌≡◌, nat_eq};
+    ghost use Rattle.ossl_script.specs.Laws.{OwnLinesAlone};
+
+    /// Whether the line is this caller's.
+    ///
+    /// What a caller does follows from its own lines, what their files hold, and its replies alone; other callers' lines may be others.
+    pub fn is_of(&self, caller: u64) -> bool
+        ensures own { result ≡ nat_eq self.now.caller caller }
+        ensures alone { OwnLinesAlone }
+    {
+        self.caller == caller
+    }
+}

@@ -1,9 +1,10 @@
 //! The tokens that a caller holds.
 
 ghost use Rattle.std.specs.Prelude.{◌≡◌};
-ghost use Rattle.ossl_script.specs.Held.{give_back_call};
+ghost use Rattle.ossl_script.specs.Held.{give_back_call, handed_out};
+ghost use Rattle.ossl_script.specs.Laws.{GivingBackLeavesNone, HeldIsOwned};
 
-use ossl_calls::Call;
+use ossl_calls::{Call, Reply};
 
 /// What a token stands for.
 #[derive(Clone, Copy, Debug, PartialEq, Eq)]
@@ -22,9 +23,31 @@ pub struct Held {
 }
 
 impl Held {
+    /// The token that a call with its reply hands out, if it does.
+    ///
+    /// A caller that keeps these, but for those that its calls give back, keeps exactly the tokens that it owns.
+    #[tactic(auto, using(crate::proofs::HeldLaws::held_is_owned))]
+    pub fn handed_out(call: &Call, reply: &Reply) -> Option<Held>
+        ensures token { result ≡ handed_out call.now reply.now }
+        ensures owned { HeldIsOwned }
+    {
+        let (number, kind) = match (call, reply) {
+            (Call::Load { .. }, Reply::Loaded { number, .. }) => (*number, TokenKind::Activation),
+            (Call::Fetch { .. }, Reply::Fetched { number, .. }) => (*number, TokenKind::Method),
+            (Call::UpRef { .. }, Reply::Made { number }) => (*number, TokenKind::Method),
+            (Call::NewCtx { .. }, Reply::Made { number }) => (*number, TokenKind::Context),
+            _ => return None,
+        };
+        Some(Held { number, kind })
+    }
+
     /// The call that gives the token back.
+    ///
+    /// A caller that makes this call of each token that it holds owns none, at whatever moment it does so.
+    #[tactic(auto, using(crate::proofs::HeldLaws::giving_back_leaves_none))]
     pub fn give_back(self) -> Call
         ensures call { result ≡ give_back_call self }
+        ensures leaves_none { GivingBackLeavesNone }
     {
         match self.kind {
             TokenKind::Activation => Call::Unload { token: self.number },
