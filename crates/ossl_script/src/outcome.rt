@@ -80,7 +80,7 @@ fn put_outcome(alloc: Global, out: &mut Vec<u8>, outcome: &Outcome) -> Result<()
     ensures { OnOk result (out.new.items ≡ out.old.items ++ outcome_text outcome.now) }
 {
     match outcome {
-        Outcome::Done => out.extend_from_slice(b"ok"),
+        Outcome::Done => put_word(out, b"ok"),
         Outcome::Loaded { skipped } => put_numbered(alloc, out, b"ok skipped ", *skipped),
         Outcome::Fetched { provider } => put_named(out, b"ok ", provider),
         Outcome::Finished { bytes } => {
@@ -159,7 +159,7 @@ fn put_begin(alloc: Global, out: &mut Vec<u8>, refusal: BeginRefused) -> Result<
             out.extend_from_slice(b"missing ")?;
             out.extend_from_slice(parameter_name(which))
         }
-        BeginRefused::WrongInner => out.extend_from_slice(b"wrong inner"),
+        BeginRefused::WrongInner => put_word(out, b"wrong inner"),
         BeginRefused::KeyLength { got } => put_numbered(alloc, out, b"key length ", got),
         BeginRefused::IvLength { got } => put_numbered(alloc, out, b"iv length ", got),
         BeginRefused::TooLong { limit } => put_numbered(alloc, out, b"too long ", limit),

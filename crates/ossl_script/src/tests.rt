@@ -1,5 +1,11 @@
-use crate::{Data, Limit, LineKind, Verb, caller_number, is_name, number, operation};
+use crate::{
+    Command, Data, Held, Limit, Line, LineKind, Outcome, TokenKind, Verb, caller_number, is_name,
+    number, operation,
+};
+use ossl_base::text::{Bytes, Text};
+use ossl_calls::{Call, Reply};
 use ossl_codes::Operation;
+use ossl_op::{BeginRefused, FinishRefused};
 use std::test::Fail;
 
 #[test]
@@ -23,4 +29,52 @@ fn data_is_read_from_a_word(rt: HostRuntime) -> Result<(), Fail> {
     }
     assert!(rt; Data::of(alloc, b"hex:0")?.is_none());
     Ok(())
+}
+
+// Each sort of result once, in its printed form.
+#[test]
+fn results_are_printed(rt: HostRuntime) -> Result<(), Fail> {
+    let alloc = rt.alloc();
+    let bytes = Bytes::of(Vec::from_slice(alloc, &[0, 255])?);
+    let name = Text::of(Vec::from_slice(alloc, b"A")?);
+    let mut out = Vec::new(alloc);
+    Outcome::of(Reply::Done).put(alloc, &mut out)?;
+    Outcome::of(Reply::NoLib).put(alloc, &mut out)?;
+    Outcome::Finished { bytes }.put(alloc, &mut out)?;
+    Outcome::NotLoaded { name }.put(alloc, &mut out)?;
+    let refusal = BeginRefused::KeyLength { got: 15 };
+    Outcome::NotBegun { refusal }.put(alloc, &mut out)?;
+    let refusal = FinishRefused::WrongFinalBlock { rest: 15 };
+    Outcome::NotFinished { refusal }.put(alloc, &mut out)?;
+    let text =
+        "okerror no contextok 00fferror not loaded Aerror key length 15error wrong final block 15";
+    assert_eq!(rt; out.as_slice(), text.as_bytes());
+    Ok(())
+}
+
+// A method is handed out, and the call that gives it back names it.
+#[test]
+fn a_token_is_handed_out_and_given_back(rt: HostRuntime) -> Result<(), Fail> {
+    let up_ref = Call::UpRef { handle: 2 };
+    let held = Held::handed_out(&up_ref, &Reply::Made { number: 7 }).ok_or("none")?;
+    assert_eq!(rt;
+        held,
+        Held {
+            number: 7,
+            kind: TokenKind::Method
+        }
+    );
+    assert!(rt; matches!(held.give_back(), Call::Free { handle: 7 }));
+    Ok(())
+}
+
+#[test]
+fn a_line_is_its_callers(rt: HostRuntime) {
+    let line = Line {
+        number: 1,
+        caller: 3,
+        command: Command::CloseLib { lib: 0 },
+    };
+    assert!(rt; line.is_of(3));
+    assert!(rt; !line.is_of(1));
 }
