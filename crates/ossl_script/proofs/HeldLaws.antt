@@ -32,13 +32,13 @@ pub goes_by_reply : GoesByReply
 goes_by_reply lines contents caller replies reply = fold-append (after_reply (content_by lines contents)) (opening (content_by lines contents) (lines_of caller lines)) replies (reply ∷ [])
 
 -- a token stands for this one: giving it back gives this one up
-abbrev is_token : Held → ℕ → Token → Bool
+abbrev pub is_token : Held → ℕ → Token → Bool
 is_token held t token = gives_up_by (give_back_call held) Done t token
 
 -- 1. A step: what is held after an entry is what is owned after it.
 
 -- the test whether a token is given up, at the token that a held one is
-up_at : (call : Call) (reply : Reply) (one : Held) (t : ℕ) (token : Token) → is_token one t token ≡ true
+pub up_at : (call : Call) (reply : Reply) (one : Held) (t : ℕ) (token : Token) → is_token one t token ≡ true
     → gives_up_by call reply one.number (token_of one.kind) ≡ gives_up_by call reply t token
 up_at call reply one t token same = by_kind one.number one.kind token same
   where
@@ -55,7 +55,7 @@ up_at call reply one t token same = by_kind one.number one.kind token same
     by_kind n Context method_token same = absurd (true≢false (sym same))
 
 -- what a call leaves is what was held, but for what it gives up
-left-held : (call : Call) (reply : Reply) (t : ℕ) (token : Token) (held : List Held)
+pub left-held : (call : Call) (reply : Reply) (t : ℕ) (token : Token) (held : List Held)
     → is_held (left_by call reply held) t token ≡ (if gives_up_by call reply t token then false else is_held held t token)
 left-held call reply t token [] = elim (gives_up_by call reply t token) as (λ up. false ≡ (if up then false else false)) [ true ↦ refl | false ↦ refl ]
 left-held call reply t token (one ∷ held) =
@@ -89,11 +89,11 @@ with-held one t token (first ∷ held) = at (with-held one t token held) (nat_lt
     at rest false = refl
 
 -- this token is the one that is handed out
-abbrev is_handed : Option Held → ℕ → Token → Bool
+abbrev pub is_handed : Option Held → ℕ → Token → Bool
 is_handed None t token = false
 is_handed (Some one) t token = is_token one t token
 
-handed-held : (handed : Option Held) (t : ℕ) (token : Token) (held : List Held) → is_held (with_handed handed held) t token ≡ (is_handed handed t token || is_held held t token)
+pub handed-held : (handed : Option Held) (t : ℕ) (token : Token) (held : List Held) → is_held (with_handed handed held) t token ≡ (is_handed handed t token || is_held held t token)
 handed-held None t token held = refl
 handed-held (Some one) t token held = with-held one t token held
 
@@ -110,7 +110,7 @@ gained_handed (NewCtx h inner len) (Made n) t token = refl
 gained_handed call reply t token = refl
 
 -- what is held after an entry is what is owned after it
-held-after : (e : Entry Call Reply) (held : List Held) (t : ℕ) (token : Token)
+pub held-after : (e : Entry Call Reply) (held : List Held) (t : ℕ) (token : Token)
     → is_held (held_after e.call e.reply held) t token ≡ owns_after_entry (is_held held t token) e t token
 held-after e held t token =
     handed-held (handed_out e.call e.reply) t token (left_by e.call e.reply held)
@@ -126,18 +126,18 @@ held-after e held t token =
 -- 2. A whole script: what a caller holds is what it owns.
 
 -- a line that goes on changes nothing of what is held
-goes_on-held : (content : Content) (lines : List Line) (held : List Held) (told : List LineResult) (number : ℕ) (course : Course) → (goes_on content held told number course lines).held ≡ held
+pub goes_on-held : (content : Content) (lines : List Line) (held : List Held) (told : List LineResult) (number : ℕ) (course : Course) → (goes_on content held told number course lines).held ≡ held
 goes_on-held content lines held told number (ask next follows) = refl
 goes_on-held content [] held told number (said outcome bindings) = refl
 goes_on-held content (line ∷ lines) held told number (said outcome bindings) =
     goes_on-held content lines held (told ++ line_result number outcome ∷ []) line.number (course_of content bindings line.command)
 
-opening-held : (content : Content) (lines : List Line) → (opening content lines).held ≡ []
+pub opening-held : (content : Content) (lines : List Line) → (opening content lines).held ≡ []
 opening-held content [] = refl
 opening-held content (line ∷ lines) = goes_on-held content lines [] [] line.number (course_of content nothing_bound line.command)
 
 -- a caller that asks this holds, after the reply, what its call and the reply leave
-after_asking : (content : Content) (standing : Standing) (call : Call) (reply : Reply) → call_in (next_at standing.place) ≡ Some call
+pub after_asking : (content : Content) (standing : Standing) (call : Call) (reply : Reply) → call_in (next_at standing.place) ≡ Some call
     → (after_reply content standing reply).held ≡ held_after call reply standing.held
 after_asking content standing call reply asked = at standing.place asked
   where
@@ -191,7 +191,7 @@ given_back (one ∷ held) (e ∷ given) owned t token calls only =
     left true same owned only still = absurd (true≢false (sym still ∙ ap (λ b. if b then false else owned) same))
     left false same owned only still = sym (ap (λ b. b || is_held held t token) same) ∙ only (sym (ap (λ b. if b then false else owned) same) ∙ still)
 
-owns_after-append : (owned : Bool) (es fs : List (Entry Call Reply)) (t : ℕ) (token : Token) → owns_after owned (es ++ fs) t token ≡ owns_after (owns_after owned es t token) fs t token
+pub owns_after-append : (owned : Bool) (es fs : List (Entry Call Reply)) (t : ℕ) (token : Token) → owns_after owned (es ++ fs) t token ≡ owns_after (owns_after owned es t token) fs t token
 owns_after-append owned [] fs t token = refl
 owns_after-append owned (e ∷ es) fs t token = owns_after-append (owns_after_entry owned e t token) es fs t token
 

@@ -8,3 +8,4 @@ pub mod WorkedWhole
 pub mod HeldLaws
 pub mod RenamingLaws
 pub mod OwnLaws
+pub mod OwnedLaws

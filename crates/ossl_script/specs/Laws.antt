@@ -1,18 +1,19 @@
 -- Laws of what callers do.
-use Rattle.std.specs.Prelude.{ℕ, ◌≡◌, Bool, false, List, [], ◌∷◌, ◌++◌, map, option_map}
+use Rattle.std.specs.Prelude.{ℕ, ◌≡◌, ◌+◌, ◌≤◌, ⊤, Bool, true, false, Option, Some, None, List, [], ◌∷◌, ◌++◌, map, option_map}
 use Rattle.ossl_base.specs.declared.entry.Entry.{Entry}
 use Rattle.ossl_calls.specs.declared.call.Call.{Call}
 use Rattle.ossl_calls.specs.declared.call.Call.TheVariants.{Unload, UpRef, Free, NewCtx, FreeCtx}
 use Rattle.ossl_calls.specs.declared.call.Reply.{Reply}
 use Rattle.ossl_calls.specs.declared.call.Reply.TheVariants.{Loaded, Fetched, Made}
-use Rattle.ossl_calls.specs.Tokens.{Token, owns}
+use Rattle.ossl_calls.specs.Tokens.{Token, owns, owns_named}
 use Rattle.ossl_script.specs.declared.caller.Next.{Next}
 use Rattle.ossl_script.specs.declared.caller.Next.TheVariants as nexts
 use Rattle.ossl_script.specs.declared.command.Line.{Line}
+use Rattle.ossl_script.specs.declared.held.Held.{Held}
 use Rattle.ossl_script.specs.Caller.{Follows, after_reply, giving_back, lines_of, next_call, results_of, standing_of}
 use Rattle.ossl_script.specs.Counts.{files_of}
 use Rattle.ossl_script.specs.Given.{content_by}
-use Rattle.ossl_script.specs.Held.{is_held}
+use Rattle.ossl_script.specs.Held.{handed_out, is_held}
 
 -- a further reply is one step more
 abbrev pub GoesByReply : Type 0
@@ -31,6 +32,29 @@ GivingBackLeavesNone = (lines : List Line) (contents : List (List ℕ)) (caller 
     → Follows lines contents caller [] made
     → map (λ e. e.call) given ≡ giving_back lines contents caller (map (λ e. e.reply) made)
     → (t : ℕ) (token : Token) → owns (made ++ given) t token ≡ false
+
+-- a token that is handed out has at least this number
+abbrev pub IsFrom : ℕ → Option Held → Type 0
+IsFrom least None = ⊤
+IsFrom least (Some token) = least ≤ token.number
+
+-- the least number that comes behind it
+abbrev pub least_behind : ℕ → Option Held → ℕ
+least_behind least None = least
+least_behind least (Some token) = token.number + 1
+
+-- each of these entries that hands out a token hands out a greater number than those before it, as entries of a history do
+abbrev pub Rises : ℕ → List (Entry Call Reply) → Type 0
+Rises least [] = ⊤
+Rises least (e ∷ es) = IsFrom least (handed_out e.call e.reply) × Rises (least_behind least (handed_out e.call e.reply)) es
+
+-- each call that comes next names tokens that the caller owns, each of the kind that the call takes
+abbrev pub CallsAreOwned : Type 0
+CallsAreOwned = (lines : List Line) (contents : List (List ℕ)) (caller : ℕ) (made : List (Entry Call Reply)) (line : ℕ) (call : Call)
+    → Follows lines contents caller [] made
+    → Rises 0 made
+    → next_call lines contents caller (map (λ e. e.reply) made) ≡ nexts.Call line call
+    → owns_named made call ≡ true
 
 -- a reply with other numbers of tokens and instances
 abbrev pub renumbered : (ℕ → ℕ) → (ℕ → ℕ) → Reply → Reply
