@@ -73,7 +73,7 @@ left-held call reply t token (one ∷ held) =
         subst (λ b. (b || is_held (left_by call reply held) t token) ≡ (if gives_up_by call reply t token then false else (b || is_held held t token))) (sym same) rest
 
 -- with one more token, that one is held too
-with-held : (one : Held) (t : ℕ) (token : Token) (held : List Held) → is_held (with_token one held) t token ≡ (is_token one t token || is_held held t token)
+pub with-held : (one : Held) (t : ℕ) (token : Token) (held : List Held) → is_held (with_token one held) t token ≡ (is_token one t token || is_held held t token)
 with-held one t token [] = refl
 with-held one t token (first ∷ held) = at (with-held one t token held) (nat_lt one.number first.number)
   where
@@ -165,6 +165,18 @@ followed lines contents caller replies (e ∷ made) t token follows =
 
 -- 3. Giving back.
 
+-- an entry that gives a token back takes this one where it is that one, and nothing else
+pub given_back_step : (one : Held) (e : Entry Call Reply) (owned : Bool) (t : ℕ) (token : Token) → e.call ≡ give_back_call one
+    → owns_after_entry owned e t token ≡ (if is_token one t token then false else owned)
+given_back_step one e owned t token same = by_call one.number one.kind e.call same
+  where
+    by_call : (n : ℕ) (kind : TokenKind) (call : Call) → call ≡ give_back_call (record { number = n; kind = kind })
+        → (if gains_by call e.reply t token then true else (if gives_up_by call e.reply t token then false else owned))
+        ≡ (if is_token (record { number = n; kind = kind }) t token then false else owned)
+    by_call n Activation call same = rw same refl
+    by_call n Method call same = rw same refl
+    by_call n Context call same = rw same refl
+
 -- where a token is owned only if it is among these, and these are given back, it is owned no more
 given_back : (held : List Held) (given : List (Entry Call Reply)) (owned : Bool) (t : ℕ) (token : Token)
     → map (λ e. e.call) given ≡ give_back_calls held → (owned ≡ true → is_held held t token ≡ true) → owns_after owned given t token ≡ false
@@ -173,19 +185,8 @@ given_back [] [] false t token calls only = refl
 given_back [] (e ∷ given) owned t token calls only = absurd cc
 given_back (one ∷ held) [] owned t token calls only = absurd cc
 given_back (one ∷ held) (e ∷ given) owned t token calls only =
-    subst (λ after. owns_after after given t token ≡ false) (sym (step one.number one.kind e (cc))) (given_back held given (if is_token one t token then false else owned) t token (cc) (left (is_token one t token) refl owned only))
+    subst (λ after. owns_after after given t token ≡ false) (sym (given_back_step one e owned t token (cc))) (given_back held given (if is_token one t token then false else owned) t token (cc) (left (is_token one t token) refl owned only))
   where
-    step : (n : ℕ) (kind : TokenKind) (e : Entry Call Reply) → e.call ≡ give_back_call (record { number = n; kind = kind })
-        → owns_after_entry owned e t token ≡ (if is_token (record { number = n; kind = kind }) t token then false else owned)
-    step n kind e same = by_call kind e.call same
-      where
-        by_call : (kind : TokenKind) (call : Call) → call ≡ give_back_call (record { number = n; kind = kind })
-            → (if gains_by call e.reply t token then true else (if gives_up_by call e.reply t token then false else owned))
-            ≡ (if is_token (record { number = n; kind = kind }) t token then false else owned)
-        by_call Activation call same = rw same refl
-        by_call Method call same = rw same refl
-        by_call Context call same = rw same refl
-
     left : (is : Bool) → is_token one t token ≡ is → (owned : Bool) → (owned ≡ true → (is_token one t token || is_held held t token) ≡ true)
         → (if is_token one t token then false else owned) ≡ true → is_held held t token ≡ true
     left true same owned only still = absurd (true≢false (sym still ∙ ap (λ b. if b then false else owned) same))

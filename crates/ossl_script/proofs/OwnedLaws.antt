@@ -1,6 +1,6 @@
 -- Each call that comes next names tokens that the caller owns.
-use Rattle.std.proofs.Common.{◌≡◌, ℕ, ◌+◌, ◌<◌, ◌≤◌, Bool, true, false, ◌||◌, not, nat_eq, List, [], ◌∷◌, ◌++◌, map, refl, sym, ◌∙◌, ap, subst, append_assoc, ◌&&◌, arith}
-use Rattle.std.specs.Prelude.{⊤, if◌then◌else◌, None, Some, Ok, Err, Option, Result, option_map, is_some, fold, length}
+use Rattle.std.proofs.Common.{◌≡◌, ℕ, ◌+◌, ◌<◌, ◌≤◌, Bool, true, false, ◌||◌, not, nat_eq, nat_lt, List, [], ◌∷◌, ◌++◌, map, refl, sym, ◌∙◌, ap, subst, append_assoc, ◌&&◌, arith}
+use Rattle.std.specs.Prelude.{⊤, cond, if◌then◌else◌, None, Some, Ok, Err, Option, Result, option_map, is_some, fold, length}
 use Rattle.std.specs.Bool.{Decides}
 use Rattle.std.specs.Str.{bytes_eq}
 use Rattle.std.proofs.lemmas.Bool.{eq-eqb, eqb-true, ne_eqb, true≢false}
@@ -38,12 +38,12 @@ use Rattle.ossl_script.specs.Commands.{after_load, after_fetch, after_up_ref, af
 use Rattle.ossl_script.specs.Course.{Course, by_query, reads, by_activation, uses_activation, by_method, uses_method, uses_inner, by_running, uses_running, by_context, uses_context, binds}
 use Rattle.ossl_script.specs.Course.Course.{ask, said}
 use Rattle.ossl_script.specs.Given.{Content, Options, content_by, options_of, fed_by}
-use Rattle.ossl_script.specs.Held.{token_of, handed_out, held_after, give_back_call, is_held, left_by}
-use Rattle.ossl_script.specs.Laws.{CallsAreOwned, IsFrom, Rises, least_behind}
+use Rattle.ossl_script.specs.Held.{token_of, handed_out, held_after, give_back_call, give_back_calls, is_held, left_by, with_handed, with_token}
+use Rattle.ossl_script.specs.Laws.{CallsAreOwned, GivingBackIsOwned, IsFrom, Rises, least_behind}
 use Rattle.ossl_script.specs.Outcome.{outcome_of}
 use Rattle.ossl_script.specs.Whole as whole
 use Rattle.ossl_script.specs.Whole.{Whole, begun, by_beginning, code_of, tokens_of, freed, after_context, after_inner, on_method, on_methods, performed}
-use Rattle.ossl_script.proofs.HeldLaws.{goes_by_reply, held_is_owned, handed-held, left-held, goes_on-held, opening-held, after_asking, is_handed, is_token, up_at}
+use Rattle.ossl_script.proofs.HeldLaws.{goes_by_reply, held_is_owned, given_back_step, handed-held, left-held, owns_after-append, with-held, is_handed, is_token}
 
 -- 1. Tokens.
 
@@ -109,6 +109,16 @@ given one other reply up = at one.number one.kind other.number other.kind up
     at n kinds.Context m kinds.Activation up = absurd (true≢false (sym up))
     at n kinds.Context m kinds.Method up = absurd (true≢false (sym up))
 
+-- a token has the number of the one that it stands for
+number_of_token : (one : Held) (t : ℕ) (token : Token) → is_token one t token ≡ true → one.number ≡ t
+number_of_token one t token same = at one.number one.kind token same
+  where
+    at : (n : ℕ) (kind : TokenKind) (token : Token) → is_token (one_of n kind) t token ≡ true → n ≡ t
+    at n kinds.Activation activation_token same = eqb-true n t same
+    at n kinds.Method method_token same = eqb-true n t same
+    at n kinds.Context context_token same = eqb-true n t same
+    at n kind token same = absurd (true≢false (sym same))
+
 -- the numbers stay below the least that comes next
 still_below : (least : ℕ) (call : Call) (reply : Reply) (held : List Held) → IsFrom least (handed_out call reply) → IsBelow least held
     → IsBelow (least_behind least (handed_out call reply)) (held_after call reply held)
@@ -126,14 +136,61 @@ still_below least call reply held from below t token has =
     at (Some one) from has = by_is (is_token one t token) refl has
       where
         by_is : (is : Bool) → is_token one t token ≡ is → (is || is_held (left_by call reply held) t token) ≡ true → t < one.number + 1
-        by_is true same has = let equal : one.number ≡ t = by_kind one.number one.kind token same in omega arith
-          where
-            by_kind : (n : ℕ) (kind : TokenKind) (token : Token) → is_token (one_of n kind) t token ≡ true → n ≡ t
-            by_kind n kinds.Activation activation_token same = eqb-true n t same
-            by_kind n kinds.Method method_token same = eqb-true n t same
-            by_kind n kinds.Context context_token same = eqb-true n t same
-            by_kind n kind token same = absurd (true≢false (sym same))
+        by_is true same has = let equal : one.number ≡ t = number_of_token one t token same in omega arith
         by_is false same has = let small : t < least = left has in omega (arith, from)
+
+-- no token stands twice
+abbrev IsDistinct : List Held → Type 0
+IsDistinct [] = ⊤
+IsDistinct (one ∷ held) = ((t : ℕ) (token : Token) → is_held held t token ≡ true → is_token one t token ≡ false) × IsDistinct held
+
+distinct_with : (one : Held) (held : List Held) → ((t : ℕ) (token : Token) → is_held held t token ≡ true → is_token one t token ≡ false) → IsDistinct held → IsDistinct (with_token one held)
+distinct_with one [] new distinct = (λ t token has. absurd (true≢false (sym has)), tt)
+distinct_with one (first ∷ held) new distinct =
+    at (nat_lt one.number first.number) (distinct_with one held (λ t token has. new t token (ap (λ b. is_token first t token || b) has ∙ or-true (is_token first t token))) distinct.1)
+  where
+    or-true : (b : Bool) → (b || true) ≡ true
+    or-true true = refl
+    or-true false = refl
+    apart : (t : ℕ) (token : Token) → (is_one is_first : Bool) → is_token one t token ≡ is_one → is_token first t token ≡ is_first → (is_one || is_held held t token) ≡ true → is_first ≡ false
+    apart t token is_one false one_is first_is has = refl
+    apart t token true true one_is first_is has = sym one_is ∙ new t token (ap (λ b. b || is_held held t token) first_is)
+    apart t token false true one_is first_is has = sym first_is ∙ distinct.0 t token has
+    at : (below : Bool) → IsDistinct (with_token one held) → IsDistinct (if below then first ∷ with_token one held else one ∷ first ∷ held)
+    at true rest = (λ t token has. apart t token (is_token one t token) (is_token first t token) refl refl (sym (with-held one t token held) ∙ has), rest)
+    at false rest = (new, distinct)
+
+distinct_left : (call : Call) (reply : Reply) (held : List Held) → IsDistinct held → IsDistinct (left_by call reply held)
+distinct_left call reply [] distinct = tt
+distinct_left call reply (one ∷ held) distinct = at (gives_up_by call reply one.number (token_of one.kind)) (distinct_left call reply held distinct.1)
+  where
+    fewer : (t : ℕ) (token : Token) → is_held (left_by call reply held) t token ≡ true → is_held held t token ≡ true
+    fewer t token has = by_up (gives_up_by call reply t token) (sym (left-held call reply t token held) ∙ has)
+      where
+        by_up : (up : Bool) → (if up then false else is_held held t token) ≡ true → is_held held t token ≡ true
+        by_up true is = absurd (true≢false (sym is))
+        by_up false is = is
+    at : (up : Bool) → IsDistinct (left_by call reply held) → IsDistinct (cond (not up) (one ∷ left_by call reply held) (left_by call reply held))
+    at true rest = rest
+    at false rest = (λ t token has. distinct.0 t token (fewer t token has), rest)
+
+-- a token of a number that nothing held reaches is new
+distinct_after : (least : ℕ) (call : Call) (reply : Reply) (held : List Held) → IsFrom least (handed_out call reply) → IsBelow least held → IsDistinct held → IsDistinct (held_after call reply held)
+distinct_after least call reply held from below distinct = at (handed_out call reply) from
+  where
+    at : (handed : Option Held) → IsFrom least handed → IsDistinct (with_handed handed (left_by call reply held))
+    at None from = distinct_left call reply held distinct
+    at (Some one) from = distinct_with one (left_by call reply held) new (distinct_left call reply held distinct)
+      where
+        new : (t : ℕ) (token : Token) → is_held (left_by call reply held) t token ≡ true → is_token one t token ≡ false
+        new t token has = by_up (gives_up_by call reply t token) (sym (left-held call reply t token held) ∙ has)
+          where
+            by_is : (is : Bool) → is_token one t token ≡ is → t < least → is_token one t token ≡ false
+            by_is true same small = let equal : one.number ≡ t = number_of_token one t token same in absurd (omega (arith, from))
+            by_is false same small = same
+            by_up : (up : Bool) → (if up then false else is_held held t token) ≡ true → is_token one t token ≡ false
+            by_up true is = absurd (true≢false (sym is))
+            by_up false is = by_is (is_token one t token) refl (below t token is)
 
 -- 2. What names are bound to, and courses.
 
@@ -541,14 +598,15 @@ IsSoundPlace least held ended = ⊤
 
 record IsSoundStanding (least : ℕ) (standing : Standing) : Type 0 where
   below : IsBelow least standing.held
+  distinct : IsDistinct standing.held
   place : IsSoundPlace least standing.held standing.place
 
-sound_going : (content : Content) (least : ℕ) (lines : List Line) (held : List Held) (told : List LineResult) (number : ℕ) (course : Course) → IsBelow least held → IsSound least held course
+sound_going : (content : Content) (least : ℕ) (lines : List Line) (held : List Held) (told : List LineResult) (number : ℕ) (course : Course) → IsBelow least held → IsDistinct held → IsSound least held course
     → IsSoundStanding least (goes_on content held told number course lines)
-sound_going content least lines held told number (ask call follows) below sound = record { below = below; place = sound }
-sound_going content least [] held told number (said outcome b) below sound = record { below = below; place = tt }
-sound_going content least (line ∷ lines) held told number (said outcome b) below sound =
-    sound_going content least lines held (told ++ line_result number outcome ∷ []) line.number (course_of content b line.command) below (sound_course content least held b below sound line.command)
+sound_going content least lines held told number (ask call follows) below distinct sound = record { below = below; distinct = distinct; place = sound }
+sound_going content least [] held told number (said outcome b) below distinct sound = record { below = below; distinct = distinct; place = tt }
+sound_going content least (line ∷ lines) held told number (said outcome b) below distinct sound =
+    sound_going content least lines held (told ++ line_result number outcome ∷ []) line.number (course_of content b line.command) below distinct (sound_course content least held b below sound line.command)
 
 none_bound : IsBound [] nothing_bound
 none_bound = record { has = λ name x is. absurd cc; apart = λ name other x y is also same. absurd cc }
@@ -557,9 +615,9 @@ none_below : IsBelow 0 []
 none_below t token has = absurd (true≢false (sym has))
 
 sound_opening : (content : Content) (lines : List Line) → IsSoundStanding 0 (opening content lines)
-sound_opening content [] = record { below = none_below; place = tt }
+sound_opening content [] = record { below = none_below; distinct = tt; place = tt }
 sound_opening content (line ∷ lines) =
-    sound_going content 0 lines [] [] line.number (course_of content nothing_bound line.command) none_below (sound_course content 0 [] nothing_bound none_below none_bound line.command)
+    sound_going content 0 lines [] [] line.number (course_of content nothing_bound line.command) none_below tt (sound_course content 0 [] nothing_bound none_below none_bound line.command)
 
 -- one entry more
 sound_step : (content : Content) (least : ℕ) (standing : Standing) (call : Call) (reply : Reply) → call_in (next_at standing.place) ≡ Some call → IsFrom least (handed_out call reply) → IsSoundStanding least standing
@@ -572,7 +630,7 @@ sound_step content least standing call reply asked from sound = at standing.plac
         subst (λ c. IsSoundStanding (least_behind least (handed_out c reply)) (after_reply_at content standing reply (asking number other follows lines))) equal (
         let from_other : IsFrom least (handed_out other reply) = subst (λ c. IsFrom least (handed_out c reply)) (sym equal) from in
         sound_going content (least_behind least (handed_out other reply)) lines (held_after other reply standing.held) standing.told number (follows reply)
-        (still_below least other reply standing.held from_other sound.below) (sound_place.1 reply from_other)
+        (still_below least other reply standing.held from_other sound.below) (distinct_after least other reply standing.held from_other sound.below sound.distinct) (sound_place.1 reply from_other)
         )
     at ended same sound_place = absurd cc
 
@@ -604,15 +662,53 @@ owns_what_it_holds held made (calls.NewCtx token None len) same names = ap (λ b
 owns_what_it_holds held made (calls.NewCtx token (Some inner) len) same names =
     ap (λ b. b && owns made inner method_token) (sym (same token method_token) ∙ names.0) ∙ sym (same inner method_token) ∙ names.1
 
+-- where a caller stands after its entries
+sound_after : (lines : List Line) (contents : List (List ℕ)) (caller : ℕ) (made : List (Entry Call Reply)) → Follows lines contents caller [] made → Rises 0 made
+    → IsSoundStanding (least_after 0 made) (standing_of lines contents caller (map (λ e. e.reply) made))
+sound_after lines contents caller made follows rises = sound_steps lines contents caller 0 [] made follows rises (sound_opening (content_by lines contents) (lines_of caller lines))
+
 -- each call that comes next names tokens that the caller owns
 pub calls_are_owned : CallsAreOwned
 calls_are_owned lines contents caller made line call follows rises next =
-    owns_what_it_holds (standing_of lines contents caller (map (λ e. e.reply) made)).held made call (held_is_owned lines contents caller made follows)
-    (at (standing_of lines contents caller (map (λ e. e.reply) made)).place next sound.place)
+    owns_what_it_holds _ made call (held_is_owned lines contents caller made follows)
+    (at (standing_of lines contents caller (map (λ e. e.reply) made)) next (sound_after lines contents caller made follows rises))
   where
-    sound : IsSoundStanding (least_after 0 made) (standing_of lines contents caller (map (λ e. e.reply) made))
-    sound = sound_steps lines contents caller 0 [] made follows rises (sound_opening (content_by lines contents) (lines_of caller lines))
-    at : (place : Place) → next_at place ≡ nexts.Call line call → IsSoundPlace (least_after 0 made) (standing_of lines contents caller (map (λ e. e.reply) made)).held place
-        → NamesHeld (standing_of lines contents caller (map (λ e. e.reply) made)).held call
-    at (asking number other follows behind) same sound = let equal : other ≡ call = (cc) in subst (λ c. NamesHeld (standing_of lines contents caller (map (λ e. e.reply) made)).held c) equal sound.0
-    at ended same sound = absurd cc
+    at_place : (held : List Held) (place : Place) → next_at place ≡ nexts.Call line call → IsSoundPlace (least_after 0 made) held place → NamesHeld held call
+    at_place held (asking number other follows behind) same sound = let equal : other ≡ call = (cc) in subst (λ c. NamesHeld held c) equal sound.0
+    at_place held ended same sound = absurd cc
+    at : (standing : Standing) → next_at standing.place ≡ nexts.Call line call → IsSoundStanding (least_after 0 made) standing → NamesHeld standing.held call
+    at standing same sound = at_place standing.held standing.place same sound.place
+
+-- 7. Giving back.
+
+-- a token that is given back is owned until then
+given_is_owned : (held : List Held) (made given : List (Entry Call Reply)) (call : Call) (more : List Call) → IsDistinct held → ((t : ℕ) (token : Token) → is_held held t token ≡ true → owns made t token ≡ true)
+    → map (λ e. e.call) given ++ call ∷ more ≡ give_back_calls held → owns_named (made ++ given) call ≡ true
+given_is_owned [] made [] call more distinct owned calls = absurd cc
+given_is_owned [] made (e ∷ given) call more distinct owned calls = absurd cc
+given_is_owned (one ∷ held) made [] call more distinct owned calls =
+    let equal : call ≡ give_back_call one = (cc) in
+    rw append-nil (subst (λ c. owns_named made c ≡ true) (sym equal) (at one.number one.kind (owned one.number (token_of one.kind) (ap (λ b. b || is_held held one.number (token_of one.kind)) (itself one)))))
+  where
+    at : (n : ℕ) (kind : TokenKind) → owns made n (token_of kind) ≡ true → owns_named made (give_back_call (one_of n kind)) ≡ true
+    at n kinds.Activation owns = owns
+    at n kinds.Method owns = owns
+    at n kinds.Context owns = owns
+given_is_owned (one ∷ held) made (e ∷ given) call more distinct owned calls =
+    subst (λ es. owns_named es call ≡ true) (append_assoc made (e ∷ []) given)
+    (given_is_owned held (made ++ e ∷ []) given call more distinct.1 (λ t token has.
+    owns_after-append false made (e ∷ []) t token
+    ∙ given_back_step one e (owns made t token) t token (cc)
+    ∙ ap (λ b. if b then false else owns made t token) (distinct.0 t token has)
+    ∙ owned t token (ap (λ b. is_token one t token || b) has ∙ or-true (is_token one t token))) (cc))
+  where
+    or-true : (b : Bool) → (b || true) ≡ true
+    or-true true = refl
+    or-true false = refl
+
+-- each call that gives back names a token that is owned
+pub giving_back_is_owned : GivingBackIsOwned
+giving_back_is_owned lines contents caller made given call more follows rises calls =
+    given_is_owned (standing_of lines contents caller (map (λ e. e.reply) made)).held made given call more
+    (sound_after lines contents caller made follows rises).distinct
+    (λ t token has. sym (held_is_owned lines contents caller made follows t token) ∙ has) calls

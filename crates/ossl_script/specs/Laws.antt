@@ -5,13 +5,13 @@ use Rattle.ossl_calls.specs.declared.call.Call.{Call}
 use Rattle.ossl_calls.specs.declared.call.Call.TheVariants.{Unload, UpRef, Free, NewCtx, FreeCtx}
 use Rattle.ossl_calls.specs.declared.call.Reply.{Reply}
 use Rattle.ossl_calls.specs.declared.call.Reply.TheVariants.{Loaded, Fetched, Made}
-use Rattle.ossl_calls.specs.Tokens.{Token, owns, owns_named}
+use Rattle.ossl_calls.specs.Tokens.{Token, names_context, owns, owns_named}
 use Rattle.ossl_script.specs.declared.caller.Next.{Next}
 use Rattle.ossl_script.specs.declared.caller.Next.TheVariants as nexts
 use Rattle.ossl_script.specs.declared.command.Line.{Line}
 use Rattle.ossl_script.specs.declared.held.Held.{Held}
 use Rattle.ossl_script.specs.Caller.{Follows, after_reply, giving_back, lines_of, next_call, results_of, standing_of}
-use Rattle.ossl_script.specs.Counts.{files_of}
+use Rattle.ossl_script.specs.Counts.{contexts_of, files_of}
 use Rattle.ossl_script.specs.Given.{content_by}
 use Rattle.ossl_script.specs.Held.{handed_out, is_held}
 
@@ -55,6 +55,21 @@ CallsAreOwned = (lines : List Line) (contents : List (List ℕ)) (caller : ℕ) 
     → Rises 0 made
     → next_call lines contents caller (map (λ e. e.reply) made) ≡ nexts.Call line call
     → owns_named made call ≡ true
+
+-- each call that comes next names library contexts that the batch names
+abbrev pub CallsNameContexts : Type 0
+CallsNameContexts = (lines : List Line) (contents : List (List ℕ)) (caller : ℕ) (replies : List Reply) (line : ℕ) (call : Call) (contexts : ℕ)
+    → contexts_of lines ≤ contexts
+    → next_call lines contents caller replies ≡ nexts.Call line call
+    → names_context contexts call ≡ true
+
+-- each call that gives back names a token that is owned after those before it, whatever the replies to these
+abbrev pub GivingBackIsOwned : Type 0
+GivingBackIsOwned = (lines : List Line) (contents : List (List ℕ)) (caller : ℕ) (made given : List (Entry Call Reply)) (call : Call) (more : List Call)
+    → Follows lines contents caller [] made
+    → Rises 0 made
+    → map (λ e. e.call) given ++ call ∷ more ≡ giving_back lines contents caller (map (λ e. e.reply) made)
+    → owns_named (made ++ given) call ≡ true
 
 -- a reply with other numbers of tokens and instances
 abbrev pub renumbered : (ℕ → ℕ) → (ℕ → ℕ) → Reply → Reply
