@@ -1,15 +1,14 @@
 -- What a caller holds is what it owns, and giving it back leaves it no token.
-use Rattle.std.proofs.Common.{◌≡◌, ℕ, Bool, true, false, ◌||◌, not, nat_eq, nat_lt, List, [], ◌∷◌, ◌++◌, map, refl, sym, ◌∙◌, ap, subst, append_assoc}
-use Rattle.std.specs.List.{list_any, filter}
-use Rattle.std.specs.Prelude.{if◌then◌else◌, cond, None, Some, Option, fold}
+use Rattle.std.proofs.Common.{◌≡◌, ℕ, Bool, true, false, ◌||◌, not, nat_lt, List, [], ◌∷◌, ◌++◌, map, refl, sym, ◌∙◌, ap, subst, append_assoc}
+use Rattle.std.specs.Prelude.{if◌then◌else◌, cond, None, Some, Option}
 use Rattle.std.proofs.lemmas.Bool.{eqb-true, true≢false}
 use Rattle.std.proofs.lemmas.List.Sums.{fold-append}
-use Rattle.std.proofs.lemmas.List.{map-append, append-nil}
+use Rattle.std.proofs.lemmas.List.{append-nil}
 use Rattle.ossl_base.specs.declared.entry.Entry.{Entry}
 use Rattle.ossl_calls.specs.declared.call.Call.{Call}
-use Rattle.ossl_calls.specs.declared.call.Call.TheVariants.{Load, Unload, SetDefault, Fetch, UpRef, Free, NewCtx, FreeCtx, CloseLib}
+use Rattle.ossl_calls.specs.declared.call.Call.TheVariants.{Load, Fetch, UpRef, NewCtx}
 use Rattle.ossl_calls.specs.declared.call.Reply.{Reply}
-use Rattle.ossl_calls.specs.declared.call.Reply.TheVariants.{Loaded, Fetched, Made, Done, NoLib, NoProvider, StartRefused, Unsupported, NotAdmitted}
+use Rattle.ossl_calls.specs.declared.call.Reply.TheVariants.{Loaded, Fetched, Made, Done}
 use Rattle.ossl_calls.specs.Tokens.{Token, gains_by, gives_up_by, owns, owns_after, owns_after_entry}
 use Rattle.ossl_calls.specs.Tokens.Token.{activation_token, method_token, context_token}
 use Rattle.ossl_script.specs.declared.caller.LineResult.{LineResult}
@@ -17,7 +16,7 @@ use Rattle.ossl_script.specs.declared.command.Line.{Line}
 use Rattle.ossl_script.specs.declared.held.Held.{Held}
 use Rattle.ossl_script.specs.declared.held.TokenKind.{TokenKind}
 use Rattle.ossl_script.specs.declared.held.TokenKind.TheVariants.{Activation, Method, Context}
-use Rattle.ossl_script.specs.Caller.{Follows, Place, Standing, after_reply, after_reply_at, call_in, giving_back, goes_on, line_result, lines_of, next_at, next_call, opening, stands, standing_of}
+use Rattle.ossl_script.specs.Caller.{Follows, Place, Standing, after_reply, after_reply_at, call_in, goes_on, line_result, lines_of, next_at, opening, standing_of}
 use Rattle.ossl_script.specs.Caller.Place.{asking, ended}
 use Rattle.ossl_script.specs.Bindings.{nothing_bound}
 use Rattle.ossl_script.specs.Commands.{course_of}

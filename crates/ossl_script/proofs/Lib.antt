@@ -9,3 +9,4 @@ pub mod HeldLaws
 pub mod RenamingLaws
 pub mod OwnLaws
 pub mod OwnedLaws
+pub mod ContextLaws

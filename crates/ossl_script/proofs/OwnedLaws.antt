@@ -1,6 +1,6 @@
 -- Each call that comes next names tokens that the caller owns.
 use Rattle.std.proofs.Common.{◌≡◌, ℕ, ◌+◌, ◌<◌, ◌≤◌, Bool, true, false, ◌||◌, not, nat_eq, nat_lt, List, [], ◌∷◌, ◌++◌, map, refl, sym, ◌∙◌, ap, subst, append_assoc, ◌&&◌, arith}
-use Rattle.std.specs.Prelude.{⊤, cond, if◌then◌else◌, None, Some, Ok, Err, Option, Result, option_map, is_some, fold, length}
+use Rattle.std.specs.Prelude.{⊤, cond, if◌then◌else◌, None, Some, Ok, Err, Option, Result, is_some, length}
 use Rattle.std.specs.Bool.{Decides}
 use Rattle.std.specs.Str.{bytes_eq}
 use Rattle.std.proofs.lemmas.Bool.{eq-eqb, eqb-true, ne_eqb, true≢false}
@@ -32,9 +32,9 @@ use Rattle.ossl_script.specs.declared.outcome.Outcome.{Outcome}
 use Rattle.ossl_script.specs.declared.outcome.Outcome.TheVariants as outcomes
 use Rattle.ossl_script.specs.Bindings.{Binding, Bindings, Method, Operating, bind, unbind, nothing_bound}
 use Rattle.ossl_script.specs.Bindings.Binding.{activation, method, running, finished}
-use Rattle.ossl_script.specs.Caller.{Follows, Place, Standing, after_reply, after_reply_at, call_in, goes_on, line_result, lines_of, next_at, next_call, opening, standing_of}
+use Rattle.ossl_script.specs.Caller.{Follows, Place, Standing, after_reply, after_reply_at, call_in, goes_on, line_result, lines_of, next_at, opening, standing_of}
 use Rattle.ossl_script.specs.Caller.Place.{asking, ended}
-use Rattle.ossl_script.specs.Commands.{after_load, after_fetch, after_up_ref, after_open, after_giving, after_call, opened, course_of}
+use Rattle.ossl_script.specs.Commands.{after_load, after_fetch, after_up_ref, after_open, after_giving, after_call, course_of}
 use Rattle.ossl_script.specs.Course.{Course, by_query, reads, by_activation, uses_activation, by_method, uses_method, uses_inner, by_running, uses_running, by_context, uses_context, binds}
 use Rattle.ossl_script.specs.Course.Course.{ask, said}
 use Rattle.ossl_script.specs.Given.{Content, Options, content_by, options_of, fed_by}
@@ -131,6 +131,7 @@ still_below least call reply held from below t token has =
         by_up : (up : Bool) → (if up then false else is_held held t token) ≡ true → t < least
         by_up true is = absurd (true≢false (sym is))
         by_up false is = below t token is
+
     at : (handed : Option Held) → IsFrom least handed → (is_handed handed t token || is_held (left_by call reply held) t token) ≡ true → t < least_behind least handed
     at None from has = left has
     at (Some one) from has = by_is (is_token one t token) refl has
@@ -152,10 +153,12 @@ distinct_with one (first ∷ held) new distinct =
     or-true : (b : Bool) → (b || true) ≡ true
     or-true true = refl
     or-true false = refl
+
     apart : (t : ℕ) (token : Token) → (is_one is_first : Bool) → is_token one t token ≡ is_one → is_token first t token ≡ is_first → (is_one || is_held held t token) ≡ true → is_first ≡ false
     apart t token is_one false one_is first_is has = refl
     apart t token true true one_is first_is has = sym one_is ∙ new t token (ap (λ b. b || is_held held t token) first_is)
     apart t token false true one_is first_is has = sym first_is ∙ distinct.0 t token has
+
     at : (below : Bool) → IsDistinct (with_token one held) → IsDistinct (if below then first ∷ with_token one held else one ∷ first ∷ held)
     at true rest = (λ t token has. apart t token (is_token one t token) (is_token first t token) refl refl (sym (with-held one t token held) ∙ has), rest)
     at false rest = (new, distinct)
@@ -170,6 +173,7 @@ distinct_left call reply (one ∷ held) distinct = at (gives_up_by call reply on
         by_up : (up : Bool) → (if up then false else is_held held t token) ≡ true → is_held held t token ≡ true
         by_up true is = absurd (true≢false (sym is))
         by_up false is = is
+
     at : (up : Bool) → IsDistinct (left_by call reply held) → IsDistinct (cond (not up) (one ∷ left_by call reply held) (left_by call reply held))
     at true rest = rest
     at false rest = (λ t token has. distinct.0 t token (fewer t token has), rest)
@@ -188,6 +192,7 @@ distinct_after least call reply held from below distinct = at (handed_out call r
             by_is : (is : Bool) → is_token one t token ≡ is → t < least → is_token one t token ≡ false
             by_is true same small = let equal : one.number ≡ t = number_of_token one t token same in absurd (omega (arith, from))
             by_is false same small = same
+
             by_up : (up : Bool) → (if up then false else is_held held t token) ≡ true → is_token one t token ≡ false
             by_up true is = absurd (true≢false (sym is))
             by_up false is = by_is (is_token one t token) refl (below t token is)
@@ -237,12 +242,14 @@ more_bound call reply least held b name x nothing handed from below bound = reco
     has : (other : List ℕ) (y : Binding) (is : Bool) → (if is then Some x else b other) ≡ Some y → Has (held_after call reply held) (token_in y)
     has other y true is = let equal : x ≡ y = (cc) in subst (λ z. Has (held_after call reply held) (token_in z)) equal (gained call reply held (token_in x) handed)
     has other y false is = kept call reply held (token_in y) (nothing reply (token_in y).number (token_of (token_in y).kind)) (bound.has other y is)
+
     -- a new token is none that is bound
     fresh : (other : List ℕ) (y : Binding) → b other ≡ Some y → token_in x ≡ token_in y → ⊥
     fresh other y is same =
         let small : (token_in y).number < least = below (token_in y).number (token_of (token_in y).kind) (bound.has other y is) in
         let equal : (token_in x).number ≡ (token_in y).number = ap (λ one. one.number) same in
         omega (arith, from)
+
     apart : (one other : List ℕ) (y z : Binding) (is_one : Bool) → Decides is_one (name ≡ one) → (is_other : Bool) → Decides is_other (name ≡ other)
         → (if is_one then Some x else b one) ≡ Some y → (if is_other then Some x else b other) ≡ Some z → token_in y ≡ token_in z → one ≡ other
     apart one other y z true first true second is also same = sym (first.0 refl) ∙ second.0 refl
@@ -267,6 +274,7 @@ less_bound reply held b name x named bound = record {
             let same : token_in x ≡ token_in y = sym (given (token_in x) (token_in y) reply up) in
             absurd (true≢false (sym (decides.1 (bound.apart name other x y named is same))))
         by_up false up = kept (give_back_call (token_in x)) reply held (token_in y) up (bound.has other y is)
+
     apart : (one other : List ℕ) (y z : Binding) (is_one is_other : Bool) → (if is_one then None else b one) ≡ Some y → (if is_other then None else b other) ≡ Some z
         → token_in y ≡ token_in z → one ≡ other
     apart one other y z true is_other is also same = absurd cc
@@ -283,6 +291,7 @@ re_bound held b name x y named same bound = record {
     has : (other : List ℕ) (z : Binding) (is : Bool) → (if is then Some y else b other) ≡ Some z → Has held (token_in z)
     has other z true is = let equal : y ≡ z = (cc) in subst (λ one. Has held one) (sym same ∙ ap token_in equal) (bound.has name x named)
     has other z false is = bound.has other z is
+
     apart : (one other : List ℕ) (z u : Binding) (is_one : Bool) → Decides is_one (name ≡ one) → (is_other : Bool) → Decides is_other (name ≡ other)
         → (if is_one then Some y else b one) ≡ Some z → (if is_other then Some y else b other) ≡ Some u → token_in z ≡ token_in u → one ≡ other
     apart one other z u true first true second is also equal = sym (first.0 refl) ∙ second.0 refl
@@ -486,12 +495,15 @@ sound_freed : (least : ℕ) (held : List Held) (b : Bindings) (used : Method) (i
     → IsSound least held (freed (tokens_of used inner) outcome b)
 sound_freed least held b used None outcome hand =
     (hand.has, λ reply from. bound_after (calls.Free used.token) reply held b (not_given (one_of used.token kinds.Method) reply b hand.free) hand.bound)
-sound_freed least held b used (Some inner) outcome hand =
-    (hand.second, λ reply from.
-    (kept (calls.Free inner.token) reply held (one_of used.token kinds.Method) hand.differs hand.has,
+sound_freed least held b used (Some inner) outcome hand = (
+  hand.second,
+  λ reply from. (
+    kept (calls.Free inner.token) reply held (one_of used.token kinds.Method) hand.differs hand.has,
     λ last after.
-    bound_after (calls.Free used.token) last (held_after (calls.Free inner.token) reply held) b (not_given (one_of used.token kinds.Method) last b hand.free)
-    (bound_after (calls.Free inner.token) reply held b (not_given (one_of inner.token kinds.Method) reply b hand.second_free) hand.bound)))
+        bound_after (calls.Free used.token) last (held_after (calls.Free inner.token) reply held) b (not_given (one_of used.token kinds.Method) last b hand.free)
+        (bound_after (calls.Free inner.token) reply held b (not_given (one_of inner.token kinds.Method) reply b hand.second_free) hand.bound),
+  ),
+)
 
 module _ (options : Options) (query : List Clause) (fed : List ℕ) (b : Bindings) where
   abbrev work : Whole
@@ -502,11 +514,12 @@ module _ (options : Options) (query : List Clause) (fed : List ℕ) (b : Binding
       IsFrom least (handed_out call reply) → IsSound (least_behind least (handed_out call reply)) (held_after call reply held) (after_context work provider used inner reply)
   sound_context_made provider used inner least held below hand second len (replies.Made n) from =
       let call = calls.NewCtx used.token second len in
-      let made = in_hand_after call (replies.Made n) held b used.token (whole.token_of inner) (spared call (replies.Made n) b (λ reply t token. refl)) hand in
-      (gained call (replies.Made n) held (one_of n kinds.Context) refl,
-      λ reply after. sound_freed (n + 1) (held_after (calls.FreeCtx n) reply (held_after call (replies.Made n) held)) b used inner _
-      (in_hand_after (calls.FreeCtx n) reply (held_after call (replies.Made n) held) b used.token (whole.token_of inner)
-      (record { methods = λ t. refl; names = not_given (one_of n kinds.Context) reply b (free_from least held b (one_of n kinds.Context) below hand.bound from) }) made))
+      let made = in_hand_after call (replies.Made n) held b used.token (whole.token_of inner) (spared call (replies.Made n) b (λ reply t token. refl)) hand in (
+        gained call (replies.Made n) held (one_of n kinds.Context) refl,
+        λ reply after. sound_freed (n + 1) (held_after (calls.FreeCtx n) reply (held_after call (replies.Made n) held)) b used inner _
+            (in_hand_after (calls.FreeCtx n) reply (held_after call (replies.Made n) held) b used.token (whole.token_of inner)
+            (record { methods = λ t. refl; names = not_given (one_of n kinds.Context) reply b (free_from least held b (one_of n kinds.Context) below hand.bound from) }) made),
+      )
   sound_context_made provider used inner least held below hand second len reply from =
       let call = calls.NewCtx used.token second len in
       sound_freed least (held_after call reply held) b used inner (outcome_of reply) (in_hand_after call reply held b used.token (whole.token_of inner) (spared call reply b (λ reply t token. refl)) hand)
@@ -676,6 +689,7 @@ calls_are_owned lines contents caller made line call follows rises next =
     at_place : (held : List Held) (place : Place) → next_at place ≡ nexts.Call line call → IsSoundPlace (least_after 0 made) held place → NamesHeld held call
     at_place held (asking number other follows behind) same sound = let equal : other ≡ call = (cc) in subst (λ c. NamesHeld held c) equal sound.0
     at_place held ended same sound = absurd cc
+
     at : (standing : Standing) → next_at standing.place ≡ nexts.Call line call → IsSoundStanding (least_after 0 made) standing → NamesHeld standing.held call
     at standing same sound = at_place standing.held standing.place same sound.place
 

@@ -9,7 +9,6 @@ use Rattle.ossl_op.specs.declared.params.Params.{Params}
 use Rattle.ossl_op.specs.Begins.{begins, bytes_of}
 use Rattle.ossl_property.specs.declared.clause.Clause.{Clause}
 use Rattle.ossl_property.specs.Said.{query_said}
-use Rattle.ossl_calls.specs.declared.call.Call.{Call}
 use Rattle.ossl_calls.specs.declared.call.Call.TheVariants as calls
 use Rattle.ossl_calls.specs.declared.call.Reply.{Reply}
 use Rattle.ossl_calls.specs.declared.call.Reply.TheVariants as replies

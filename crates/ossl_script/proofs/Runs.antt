@@ -1,8 +1,7 @@
 -- What the worked callers are written with.
-use Rattle.std.proofs.Common.{◌≡◌, ℕ, false, List, [], ◌∷◌, ap}
-use Rattle.std.specs.Prelude.{Result, Ok, None, Some, Option}
+use Rattle.std.proofs.Common.{◌≡◌, ℕ, List, [], ◌∷◌, ap}
+use Rattle.std.specs.Prelude.{Result, Ok, None, Option}
 use Rattle.ossl_codes.specs.declared.code.Code.{Code}
-use Rattle.ossl_codes.specs.declared.code.Operation.TheVariants as operations
 use Rattle.ossl_op.specs.FinishRefused.{FinishRefused}
 use Rattle.ossl_op.specs.declared.params.Params.{Params}
 use Rattle.ossl_op.specs.Standard.{standard_result}

@@ -1,6 +1,6 @@
 -- Worked callers by computation: commands that make one call each.
-use Rattle.std.proofs.Common.{◌≡◌, ℕ, true, false, List, [], ◌∷◌, refl}
-use Rattle.std.specs.Prelude.{codes, Ok, None, Some}
+use Rattle.std.proofs.Common.{ℕ, true, false, List, [], ◌∷◌, refl}
+use Rattle.std.specs.Prelude.{codes, None}
 use Rattle.std.specs.Fmt.{digits}
 use Rattle.hex.specs.Hex.{decode_pairs}
 use Rattle.ossl_codes.specs.declared.code.Code.TheVariants.{Sha256}

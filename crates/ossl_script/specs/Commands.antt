@@ -1,7 +1,6 @@
 -- The course of each command: its query text is read first, then the names that it uses, from the left, then the name that it binds, and then its call is made.
 use Rattle.std.specs.Prelude.{ℕ, Option, List, [], ◌++◌}
 use Rattle.ossl_codes.specs.declared.code.Code.{Code}
-use Rattle.ossl_op.specs.declared.params.Params.{Params}
 use Rattle.ossl_op.specs.Standard.{standard_result}
 use Rattle.ossl_calls.specs.declared.call.Call.TheVariants as calls
 use Rattle.ossl_calls.specs.declared.call.Reply.{Reply}

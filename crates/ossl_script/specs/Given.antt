@@ -1,5 +1,5 @@
 -- What the words behind the fixed ones give a command: the bytes of its data, and its options with their defaults.
-use Rattle.std.specs.Prelude.{ℕ, Bool, true, Option, Some, None, List, [], fold, flat_map, replicate}
+use Rattle.std.specs.Prelude.{ℕ, true, Option, Some, None, List, [], fold, flat_map, replicate}
 use Rattle.ossl_codes.specs.declared.code.Operation.{Operation}
 use Rattle.ossl_codes.specs.declared.code.Operation.TheVariants as operations
 use Rattle.ossl_codes.specs.declared.param.Direction.TheVariants.{Encrypt}

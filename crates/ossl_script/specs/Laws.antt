@@ -1,5 +1,5 @@
 -- Laws of what callers do.
-use Rattle.std.specs.Prelude.{ℕ, ◌≡◌, ◌+◌, ◌≤◌, ⊤, Bool, true, false, Option, Some, None, List, [], ◌∷◌, ◌++◌, map, option_map}
+use Rattle.std.specs.Prelude.{ℕ, ◌≡◌, ◌+◌, ◌≤◌, ⊤, true, false, Option, Some, None, List, [], ◌∷◌, ◌++◌, map, option_map}
 use Rattle.ossl_base.specs.declared.entry.Entry.{Entry}
 use Rattle.ossl_calls.specs.declared.call.Call.{Call}
 use Rattle.ossl_calls.specs.declared.call.Call.TheVariants.{Unload, UpRef, Free, NewCtx, FreeCtx}

@@ -1,5 +1,9 @@
 //! What a caller is to do next, and what is printed of its lines.
 
+ghost use Rattle.std.specs.Prelude.{◌≡◌, option_map};
+ghost use Rattle.ossl_script.specs.Caller.{call_in};
+ghost use Rattle.ossl_script.specs.Laws.{CallsAreOwned, CallsNameContexts};
+
 use ossl_base::text::Text;
 use ossl_calls::Call;
 
@@ -10,6 +14,22 @@ pub enum Next {
     Call { line: u64, call: Call },
     /// Nothing more: its lines are done.
     End,
+}
+
+impl Next {
+    /// The call that comes next, if one does.
+    ///
+    /// A caller may make each call that comes next: it owns the tokens that the call names, and the library context is one that the batch names.
+    pub fn call(&self) -> Option<&Call>
+        ensures call { option_map (λ call. call.now) result ≡ call_in self.now }
+        ensures owned { CallsAreOwned }
+        ensures within { CallsNameContexts }
+    {
+        match self {
+            Next::Call { call, .. } => Some(call),
+            Next::End => None,
+        }
+    }
 }
 
 /// What is printed of a line.

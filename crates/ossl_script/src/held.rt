@@ -2,7 +2,7 @@
 
 ghost use Rattle.std.specs.Prelude.{◌≡◌};
 ghost use Rattle.ossl_script.specs.Held.{give_back_call, handed_out};
-ghost use Rattle.ossl_script.specs.Laws.{GivingBackLeavesNone, HeldIsOwned};
+ghost use Rattle.ossl_script.specs.Laws.{GivingBackIsOwned, GivingBackLeavesNone, HeldIsOwned};
 
 use ossl_calls::{Call, Reply};
 
@@ -43,10 +43,11 @@ impl Held {
 
     /// The call that gives the token back.
     ///
-    /// A caller that makes this call of each token that it holds owns none, at whatever moment it does so.
+    /// A caller that makes this call of each token that it holds, at whatever moment, may make each of these calls, and owns no token then.
     #[tactic(auto, using(crate::proofs::HeldLaws::giving_back_leaves_none))]
     pub fn give_back(self) -> Call
         ensures call { result ≡ give_back_call self }
+        ensures owned { GivingBackIsOwned }
         ensures leaves_none { GivingBackLeavesNone }
     {
         match self.kind {

@@ -1,6 +1,6 @@
 use crate::{
-    Command, Data, Held, Limit, Line, LineKind, Outcome, TokenKind, Verb, caller_number, is_name,
-    number, operation,
+    Command, Data, Held, Limit, Line, LineKind, Next, Outcome, TokenKind, Verb, caller_number,
+    is_name, number, operation,
 };
 use ossl_base::text::{Bytes, Text};
 use ossl_calls::{Call, Reply};
@@ -65,6 +65,12 @@ fn a_token_is_handed_out_and_given_back(rt: HostRuntime) -> Result<(), Fail> {
         }
     );
     assert!(rt; matches!(held.give_back(), Call::Free { handle: 7 }));
+    let next = Next::Call {
+        line: 1,
+        call: up_ref,
+    };
+    assert!(rt; matches!(next.call(), Some(Call::UpRef { handle: 2 })));
+    assert!(rt; Next::End.call().is_none());
     Ok(())
 }
 

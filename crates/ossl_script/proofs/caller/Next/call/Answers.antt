@@ -1,0 +1,15 @@
+use Rattle.ossl_script.proofs.ContextLaws.{calls_name_contexts}
+use Rattle.ossl_script.proofs.OwnedLaws.{calls_are_owned}
+use Rattle.ossl_script.proofs.caller.Next.call.Goals as goal
+
+pub returns-in-Call-clause-owned : goal.returns-in-Call-clause-owned
+returns-in-Call-clause-owned c = calls_are_owned
+
+pub returns-in-End-clause-owned : goal.returns-in-End-clause-owned
+returns-in-End-clause-owned c = calls_are_owned
+
+pub returns-in-Call-clause-within : goal.returns-in-Call-clause-within
+returns-in-Call-clause-within c = calls_name_contexts
+
+pub returns-in-End-clause-within : goal.returns-in-End-clause-within
+returns-in-End-clause-within c = calls_name_contexts
