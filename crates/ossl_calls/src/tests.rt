@@ -5,7 +5,7 @@ use crate::best::best;
 use crate::items::Items;
 use crate::opening::fresh_lib;
 use crate::state::{Active, Born, LibCtx, Offered, State};
-use crate::{Call, Entry, PlainRegistry, put_entry};
+use crate::{Call, Entry, PlainRegistry, Reply, put_entry};
 use ossl_base::Text;
 use ossl_codes::{Code, Operation};
 use ossl_property::{Definition, Query, Steps};
@@ -126,12 +126,8 @@ fn a_box_is_started_twice_in_its_life(rt: HostRuntime) -> Result<(), Fail> {
     Ok(())
 }
 
-/// A provider that is loaded, unloaded, held by a second method meanwhile, and loaded again under another name.
-fn load_and_unload<L: Ledger>(
-    alloc: Global,
-    rt: &impl Abort,
-    blank: Blank,
-) -> Result<Vec<u8>, AllocError>
+/// A provider that is loaded and unloaded.
+fn load_and_unload<L: Ledger>(alloc: Global, blank: Blank) -> Result<Vec<u8>, AllocError>
     requires name { blank.name ≡ L.name }
     requires parts { blank.parts ≡ L.parts }
     requires some { 0 < L.parts }
@@ -144,37 +140,49 @@ fn load_and_unload<L: Ledger>(
     let load = Call::Load {
         lib: 0,
         name: text(alloc, b"default")?,
-        retain: false,
-    };
-    let other = Call::Load {
-        lib: 0,
-        name: text(alloc, b"other")?,
         retain: true,
     };
-    registry.apply(1, &load, &mut steps)?;
-    registry.apply(2, &fetch(alloc, 0)?, &mut steps)?;
-    registry.apply(1, &Call::Unload { token: 1 }, &mut steps)?;
-    registry.apply(2, &Call::UpRef { handle: 2 }, &mut steps)?;
-    registry.apply(2, &Call::Free { handle: 2 }, &mut steps)?;
-    assert_eq!(rt; registry.up()?.len(), 1);
-    registry.apply(1, &other, &mut steps)?;
-    registry.apply(2, &Call::Free { handle: 4 }, &mut steps)?;
-    assert_eq!(rt; registry.up()?.len(), 0);
-    registry.apply(1, &load, &mut steps)?;
-    registry.apply(0, &Call::CloseLib { lib: 0 }, &mut steps)?;
-    registry.apply(1, &Call::Unload { token: 8 }, &mut steps)?;
+    let Reply::Loaded { number, .. } = registry.apply(1, &load, &mut steps)? else {
+        return Err(AllocError);
+    };
+    registry.apply(1, &Call::Unload { token: number }, &mut steps)?;
     printed(alloc, registry.history())
 }
 
 #[test]
-fn what_is_loaded_is_up_while_something_holds_it(rt: HostRuntime) -> Result<(), Fail> {
+fn what_is_loaded_can_be_unloaded(rt: HostRuntime) -> Result<(), Fail> {
     let alloc = rt.alloc();
     assert_eq!(rt;
-        load_and_unload::<Brand>(alloc, &rt, Blank::new(1))?.as_slice(),
-        b"load 0 default: ok 1 skipped 0\nfetch 0 digest SHA2-256 []: ok default 1 0\nunload 1: ok\n\
-        upref 2: ok\nfree 2: ok\nload 0 other retain: no provider\nfree 4: ok\nload 0 default: ok 8 skipped 0\n\
-        closelib 0: ok\nunload 8: no context\n"
-            .as_slice()
+        load_and_unload::<Brand>(alloc, Blank::new(1))?.as_slice(),
+        b"load 0 default retain: ok 1 skipped 0\nunload 1: ok\n".as_slice()
+    );
+    Ok(())
+}
+
+/// A method, and a second one of it.
+fn fetch_and_up_ref<L: Ledger>(alloc: Global, blank: Blank) -> Result<Vec<u8>, AllocError>
+    requires name { blank.name ≡ L.name }
+    requires parts { blank.parts ≡ L.parts }
+    requires some { 0 < L.parts }
+{
+    let mut steps = Steps::<L>::new(blank);
+    let catalogue = Vec::from_array(alloc, [default_box(alloc)?])?;
+    let Ok(mut registry) = PlainRegistry::open(alloc, catalogue, 1) else {
+        return Err(AllocError);
+    };
+    let Reply::Fetched { number, .. } = registry.apply(1, &fetch(alloc, 0)?, &mut steps)? else {
+        return Err(AllocError);
+    };
+    registry.apply(1, &Call::UpRef { handle: number }, &mut steps)?;
+    printed(alloc, registry.history())
+}
+
+#[test]
+fn a_method_has_a_second_one(rt: HostRuntime) -> Result<(), Fail> {
+    let alloc = rt.alloc();
+    assert_eq!(rt;
+        fetch_and_up_ref::<Brand>(alloc, Blank::new(1))?.as_slice(),
+        b"fetch 0 digest SHA2-256 []: ok default 1 0\nupref 1: ok\n".as_slice()
     );
     Ok(())
 }
