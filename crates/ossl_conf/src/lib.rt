@@ -12,7 +12,7 @@ mod tests;
 mod words;
 
 pub use kind::ConfKind;
-pub use put::put_refusal;
+pub use put::{put_refusal, put_shown};
 pub use refusal::ConfRefused;
 pub use settings::Settings;
 pub use words::is_on;

@@ -57,8 +57,8 @@ fn line_of(alloc: Global, refusal: &ConfRefused) -> Result<Vec<u8>, AllocError>
     Ok(line)
 }
 
-// The bytes of a name or a word, each outside 33 to 126 as `?`.
-fn put_shown(line: &mut Vec<u8>, text: &[u8]) -> Result<(), AllocError>
+/// Appends the bytes of a name or a word as an error line shows them, each outside 33 to 126 as `?`.
+pub fn put_shown(line: &mut Vec<u8>, text: &[u8]) -> Result<(), AllocError>
     ensures { OnOk result (line.new.items ≡ line.old.items ++ shown text.now) }
 {
     for byte in text {

@@ -8,7 +8,7 @@ use Rattle.ossl_provider.specs.Sheet.{Sheet}
 use Rattle.ossl_calls.specs.declared.call.Call.{Call}
 use Rattle.ossl_calls.specs.declared.call.Call.TheVariants.{CloseLib}
 use Rattle.ossl_calls.specs.declared.call.Reply.{Reply}
-use Rattle.ossl_calls.specs.declared.call.Reply.TheVariants.{Fetched, Made, Done, NoLib, StartRefused, Unsupported, NotAdmitted}
+use Rattle.ossl_calls.specs.declared.call.Reply.TheVariants.{Done, NoLib}
 use Rattle.ossl_calls.specs.declared.state.State.{State}
 use Rattle.ossl_calls.specs.History.{Fixed, IsLegal, state_after}
 use Rattle.ossl_calls.specs.Registry.{HasSheets, IsDown}

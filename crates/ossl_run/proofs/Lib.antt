@@ -1,5 +1,7 @@
 -- Lemmas that several proofs share.
 pub mod PrintedLaws
+pub mod TurnLaws
+pub mod WorkedRuns
 pub mod LineLaws
 pub mod OpenLaws
 pub mod HeldLaws

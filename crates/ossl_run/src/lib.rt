@@ -4,14 +4,18 @@
 #![tactic(auto)]
 
 pub mod asked;
+pub mod error_line;
 pub mod line;
+pub mod opening;
 pub mod outcome;
 pub mod print;
 pub mod read;
 pub mod refusal;
 pub mod replay;
+pub mod results;
 pub mod run;
 pub mod script;
 #[cfg(test)]
 mod tests;
+pub mod turns;
 pub mod words;

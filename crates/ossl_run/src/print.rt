@@ -1,6 +1,6 @@
 ghost use Rattle.std.specs.Prelude.{◌≡◌, ◌++◌, length, map, codes, OnOk};
 ghost use Rattle.std.specs.Fmt.{decimal};
-ghost use Rattle.ossl_run.specs.Printed.{change_text, changes_text, entry_line, is_among, numbered_text};
+ghost use Rattle.ossl_run.specs.Printed.{change_text, changes_text, entry_line, is_among, numbered_text, plainly};
 
 use ossl_base::digits::put_decimal;
 use ossl_calls::call::{Call, Reply};
@@ -83,7 +83,7 @@ fn put_numbered(
     reply: &Reply,
 ) -> Result<(), AllocError>
     ensures { OnOk result (out.new.items ≡ out.old.items
-        ++ numbered_text number (record { caller = caller; call = call.now; reply = reply.now })) }
+        ++ numbered_text plainly number (record { caller = caller; call = call.now; reply = reply.now })) }
 {
     put_decimal(alloc, out, number)?;
     out.extend_from_slice(b" ")?;
@@ -104,7 +104,7 @@ pub fn put_line<P: Provider>(
     after: &[Up],
 ) -> Result<(), AllocError>
     ensures { OnOk result (out.new.items ≡ out.old.items
-        ++ entry_line (map P.facts registry.now.boxes) (length registry.now.entries)
+        ++ entry_line plainly (map P.facts registry.now.boxes) (length registry.now.entries)
         (record { caller = made.entry.0; call = made.entry.1.now; reply = made.entry.2.now }) before.now after.now) }
 {
     let (caller, call, reply) = made;

@@ -5,17 +5,20 @@ ghost use Rattle.ossl_calls.specs.Tokens.{entries_of};
 ghost use Rattle.ossl_run.specs.Ordered.{IsLine, IsOrderedRun, replies_of};
 ghost use Rattle.ossl_run.specs.Asked.{IsAsked};
 ghost use Rattle.ossl_run.specs.Script.{result_text};
-ghost use Rattle.ossl_run.specs.Printed.{lines_of, output_text, printed_run};
+ghost use Rattle.ossl_run.specs.Printed.{lines_of, only_result, output_text, plainly, printed_run};
 
 use crate::asked::{Asked, read_query};
 use crate::line::Line;
 use crate::print::put_line;
+use crate::results::put_results;
 use crate::script::{next_call_after, put_result};
+use ossl_base::Text;
 use ossl_base::digits::put_decimal;
 use ossl_calls::call::{Call, Reply};
 use ossl_calls::plain::PlainRegistry;
 use ossl_property::Steps;
 use ossl_provider::provider::Provider;
+use ossl_script::LineResult;
 use std::alloc::{AllocError, Global};
 use std::sync::ledger::Ledger;
 
@@ -29,10 +32,10 @@ fn perform<P: Provider, L: Ledger>(
     steps: &mut Steps<L>,
 ) -> Result<Reply, AllocError>
     requires allowed { IsAllowed (fixed_of P.facts registry.old) (entries_of caller registry.old.entries) call.now }
-    requires printed { lines.old.items ≡ lines_of (fixed_of P.facts registry.old) registry.old.entries }
+    requires printed { lines.old.items ≡ lines_of plainly (fixed_of P.facts registry.old) registry.old.entries }
     ensures entry { IfOk result (λ reply.
         registry.new.entries ≡ registry.old.entries ++ record { caller = caller; call = call.now; reply = reply } ∷ []) }
-    ensures printed { OnOk result (lines.new.items ≡ lines_of (fixed_of P.facts registry.new) registry.new.entries) }
+    ensures printed { OnOk result (lines.new.items ≡ lines_of plainly (fixed_of P.facts registry.new) registry.new.entries) }
     ensures fixed { fixed_of P.facts registry.new ≡ fixed_of P.facts registry.old }
 {
     let before = registry.up()?;
@@ -64,7 +67,7 @@ fn run_line<P: Provider, L: Ledger>(
     requires asked { IsAsked asked.now line.now.query }
     ensures line { OnOk result (IsLine line.now registry.new.entries) }
     ensures replies { IfOk result (λ replies. replies.items ≡ replies_of registry.new.entries) }
-    ensures printed { OnOk result (lines.new.items ≡ lines_of (fixed_of P.facts registry.new) registry.new.entries) }
+    ensures printed { OnOk result (lines.new.items ≡ lines_of plainly (fixed_of P.facts registry.new) registry.new.entries) }
     ensures fixed { fixed_of P.facts registry.new ≡ fixed_of P.facts registry.old }
 {
     let mut replies = Vec::new(alloc);
@@ -85,16 +88,20 @@ fn whole_output(
     replies: &[Reply],
 ) -> Result<Vec<u8>, AllocError>
     requires asked { IsAsked asked.now line.now.query }
-    ensures { IfOk result (λ output. output.items ≡ output_text count lines.now (result_text line.now replies.now)) }
+    ensures { IfOk result (λ output. output.items ≡ output_text count lines.now (only_result (result_text line.now replies.now))) }
 {
     let mut output = Vec::new(alloc);
     output.extend_from_slice(b"order ")?;
     put_decimal(alloc, &mut output, count)?;
     output.extend_from_slice(b"\n")?;
     output.extend_from_slice(lines)?;
-    output.extend_from_slice(b"results 1\nline 1 ")?;
-    put_result(alloc, &mut output, line, asked, replies)?;
-    output.extend_from_slice(b"\n")?;
+    let mut text = Vec::new(alloc);
+    put_result(alloc, &mut text, line, asked, replies)?;
+    let told = [LineResult {
+        line: 1,
+        text: Text::of(text),
+    }];
+    put_results(alloc, &mut output, told.as_slice())?;
     Ok(output)
 }
 

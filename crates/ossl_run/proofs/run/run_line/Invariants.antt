@@ -1,7 +1,7 @@
 use Rattle.std.proofs.Common.{◌≡◌, ◌-◌, length, []}
 use Rattle.ossl_calls.specs.Registry.{fixed_of}
 use Rattle.ossl_run.specs.Ordered.{replies_of}
-use Rattle.ossl_run.specs.Printed.{lines_of}
+use Rattle.ossl_run.specs.Printed.{lines_of, plainly}
 use Rattle.ossl_run.specs.Script.{Follows}
 use Rattle.ossl_run.proofs.run.run_line.Given as goal
 
@@ -12,7 +12,7 @@ invariant-loop-replies g l =
     record {
       follows : Follows l.line [] l.registry.entries;
       replied : l.replies.items ≡ replies_of l.registry.entries;
-      printed : l.lines.items ≡ lines_of (fixed l.registry) l.registry.entries;
+      printed : l.lines.items ≡ lines_of plainly (fixed l.registry) l.registry.entries;
       fixed : fixed l.registry ≡ fixed l.fn.registry;
     }
 

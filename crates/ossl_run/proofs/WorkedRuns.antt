@@ -1,0 +1,233 @@
+-- Worked runs by computation: whose turn it is, what is printed, the program's own calls, and the error lines.
+use Rattle.std.proofs.Common.{◌≡◌, ℕ, true, false, List, [], ◌∷◌, ◌++◌, refl}
+use Rattle.std.specs.Prelude.{codes, None, Some, Result, Ok, Err}
+use Rattle.std.specs.Fmt.{digits}
+use Rattle.hex.specs.Hex.{decode_pairs}
+use Rattle.ossl_base.specs.declared.entry.Entry.{Entry}
+use Rattle.ossl_provider.specs.Sheet.{Facts}
+use Rattle.ossl_codes.specs.declared.code.Code.TheVariants.{Md5, Sha256}
+use Rattle.ossl_codes.specs.declared.code.Operation.TheVariants.{Digest}
+use Rattle.ossl_property.specs.Reading.{list_at}
+use Rattle.ossl_property.specs.Said.{query_said}
+use Rattle.ossl_calls.specs.declared.call.Call.{Call}
+use Rattle.ossl_calls.specs.declared.call.Call.TheVariants.{Load, Unload, SetDefault, Fetch, Free, NewCtx, FreeCtx, CloseLib}
+use Rattle.ossl_calls.specs.declared.call.Reply.{Reply}
+use Rattle.ossl_calls.specs.declared.call.Reply.TheVariants.{Loaded, Fetched, Made, Done, NoProvider}
+use Rattle.ossl_calls.specs.History.{Fixed}
+use Rattle.ossl_conf.specs.View.{SettingsView}
+use Rattle.ossl_conf.specs.declared.kind.ConfKind.TheVariants.{Equals}
+use Rattle.ossl_conf.specs.declared.refusal.ConfRefused.TheVariants as refusals
+use Rattle.ossl_script.specs.declared.command.Line.{Line}
+use Rattle.ossl_script.specs.declared.kind.LineKind.TheVariants as kinds
+use Rattle.ossl_script.specs.declared.limit.Limit.TheVariants as limits
+use Rattle.ossl_script.specs.Judging.{Fault, commands_of}
+use Rattle.ossl_run.specs.declared.error_line.ErrorLine.TheVariants as lines
+use Rattle.ossl_run.specs.Batched.{Batch}
+use Rattle.ossl_run.specs.ErrorLine.{error_status, error_text}
+use Rattle.ossl_run.specs.Opening.{IsEnded, IsOpened, closing_calls, opening_calls}
+use Rattle.ossl_run.specs.Printed.{batch_caller, mark_at, mark_text, printed_batch}
+use Rattle.ossl_run.specs.Turns.{IsInTurn, IsRunInOrder, lines_from}
+
+-- 1. What the runs are written with.
+
+abbrev lines_in : Result (List Line) Fault → List Line
+lines_in (Ok lines) = lines
+lines_in (Err fault) = []
+
+-- a batch of this text, without files
+abbrev batch_of : List ℕ → Batch
+batch_of text = record { lines = lines_in (commands_of text); contents = [] }
+
+abbrev entry : ℕ → Call → Reply → Entry Call Reply
+entry c call reply = record { caller = c; call = call; reply = reply }
+
+-- a box without rows
+abbrev box : List ℕ → Facts
+box name = record { name = name; rows = []; admits = λ code len. true }
+
+abbrev no_settings : SettingsView
+no_settings = record { activations = []; default_query = None }
+
+-- 2. Two callers that load and unload, in the order of the text; at the end the second gives back what it holds.
+
+abbrev loads : Batch
+loads = batch_of (codes "1 load 0 A X\n2 load 0 B Y\n2 load 0 A Z\n1 unload X\n1 free M")
+
+abbrev loads_run : List (Entry Call Reply)
+loads_run =
+    entry 1 (Load 0 (codes "A") false) (Loaded 1 1 0)
+    ∷ entry 2 (Load 0 (codes "B") false) (Loaded 2 2 0)
+    ∷ entry 2 (Load 0 (codes "A") false) (Loaded 3 1 0)
+    ∷ entry 1 (Unload 1) Done
+    ∷ []
+
+abbrev loads_ended : List (Entry Call Reply)
+loads_ended = loads_run ++ entry 2 (Unload 3) Done ∷ entry 2 (Unload 2) Done ∷ entry 0 (CloseLib 0) Done ∷ []
+
+abbrev two_boxes : Fixed
+two_boxes = record {
+  facts = box (codes "A") ∷ box (codes "B") ∷ [];
+  contexts = 1;
+  opened = 0 ∷ 0 ∷ [];
+}
+
+pub loads_in_order : IsRunInOrder no_settings 1 loads [] loads_ended
+unfolding digits
+loads_in_order = record {
+  opening = [];
+  turns = loads_run;
+  returning = entry 2 (Unload 3) Done ∷ entry 2 (Unload 2) Done ∷ [];
+  closing = entry 0 (CloseLib 0) Done ∷ [];
+  parts = refl;
+  opened = record { caller = refl; calls = refl; loaded = refl };
+  in_turn = (
+    record { turn = record { caller = 1; line = 1 }; rest = [] },
+    refl,
+    record { caller = refl; call = refl },
+    (
+      record { turn = record { caller = 2; line = 2 }; rest = [] },
+      refl,
+      record { caller = refl; call = refl },
+      (
+        record { turn = record { caller = 2; line = 3 }; rest = [] },
+        refl,
+        record { caller = refl; call = refl },
+        (record { turn = record { caller = 1; line = 4 }; rest = [] }, refl, record { caller = refl; call = refl }, refl),
+      ),
+    ),
+  );
+  returned = refl;
+  closed = record { caller = refl; calls = refl };
+}
+
+-- the lines of which the calls are, one after the other
+pub loads_lines : lines_from loads [] loads_run ≡ 1 ∷ 2 ∷ 3 ∷ 4 ∷ []
+unfolding digits
+loads_lines = refl
+
+pub loads_printed : printed_batch two_boxes loads (1 ∷ 2 ∷ []) None loads_ended
+    ≡ codes "order 7\n1 1 load 0 A: ok 1 skipped 0; start A 1\n2 2 load 0 B: ok 2 skipped 0; start B 2\n3 2 load 0 A: ok 1 skipped 0\n4 1 unload 1: ok\n5 2 unload 3: ok; stop A 1\n6 2 unload 2: ok; stop B 2\n7 0 closelib 0: ok\nresults 5\nline 1 ok skipped 0\nline 2 ok skipped 0\nline 3 ok skipped 0\nline 4 ok\nline 5 error unknown M\n"
+unfolding digits
+loads_printed = refl
+
+-- 3. Callers under other numbers in the history, and marks of fetches.
+
+pub second_caller : batch_caller (9 ∷ 4 ∷ []) 4 ≡ 2
+second_caller = refl
+
+-- a number under which no caller stands is the program's
+pub program_itself : batch_caller (9 ∷ 4 ∷ []) 0 ≡ 0
+program_itself = refl
+
+pub found_again : mark_text (mark_at (Some (false ∷ true ∷ [])) 2) (Fetched 2 (codes "A") 1 0 Sha256) ≡ codes " hit"
+found_again = refl
+
+pub found_anew : mark_text (mark_at (Some (false ∷ true ∷ [])) 1) (Fetched 1 (codes "A") 1 0 Sha256) ≡ codes " miss"
+found_anew = refl
+
+pub no_fetch : mark_text (mark_at (Some (false ∷ true ∷ [])) 2) Done ≡ []
+no_fetch = refl
+
+-- 4. Two whole operations by the turns of a list.
+
+abbrev two_digests : Batch
+two_digests = batch_of (codes "1 dgst SHA2-256 hex:616263\n2 dgst MD5")
+
+pub by_a_list : IsInTurn two_digests (2 ∷ 1 ∷ 2 ∷ 1 ∷ []) [] (
+    entry 2 (Fetch 0 Digest (codes "MD5") []) (Fetched 1 (codes "default") 1 7 Md5)
+    ∷ entry 1 (Fetch 0 Digest (codes "SHA2-256") []) (Fetched 2 (codes "default") 1 0 Sha256)
+    ∷ entry 2 (NewCtx 1 None 0) (Made 3)
+    ∷ entry 1 (NewCtx 2 None 0) (Made 4)
+    ∷ entry 1 (FreeCtx 4) Done
+    ∷ entry 1 (Free 2) Done
+    ∷ entry 2 (FreeCtx 3) Done
+    ∷ entry 2 (Free 1) Done
+    ∷ []
+    )
+unfolding decode_pairs query_said list_at digits
+by_a_list = (
+  record { turn = record { caller = 2; line = 2 }; rest = 1 ∷ 2 ∷ 1 ∷ [] },
+  refl,
+  record { caller = refl; call = refl },
+  (
+    record { turn = record { caller = 1; line = 1 }; rest = 2 ∷ 1 ∷ [] },
+    refl,
+    record { caller = refl; call = refl },
+    (
+      record { turn = record { caller = 2; line = 2 }; rest = 1 ∷ [] },
+      refl,
+      record { caller = refl; call = refl },
+      (
+        record { turn = record { caller = 1; line = 1 }; rest = [] },
+        refl,
+        record { caller = refl; call = refl },
+        (
+          record { turn = record { caller = 1; line = 1 }; rest = [] },
+          refl,
+          record { caller = refl; call = refl },
+          (
+            record { turn = record { caller = 1; line = 1 }; rest = [] },
+            refl,
+            record { caller = refl; call = refl },
+            (
+              record { turn = record { caller = 2; line = 2 }; rest = [] },
+              refl,
+              record { caller = refl; call = refl },
+              (record { turn = record { caller = 2; line = 2 }; rest = [] }, refl, record { caller = refl; call = refl }, refl),
+            ),
+          ),
+        ),
+      ),
+    ),
+  ),
+)
+
+-- an item whose caller has no line is passed over
+pub passed_over : IsInTurn (batch_of (codes "1 closelib 0")) (2 ∷ 1 ∷ []) [] (entry 1 (CloseLib 0) Done ∷ [])
+unfolding digits
+passed_over = (record { turn = record { caller = 1; line = 1 }; rest = [] }, refl, record { caller = refl; call = refl }, refl)
+
+-- 5. The program's own calls.
+
+abbrev two_activations : SettingsView
+two_activations = record { activations = codes "default" ∷ codes "legacy" ∷ []; default_query = Some [] }
+
+pub opens : opening_calls two_activations ≡ Load 0 (codes "default") false ∷ Load 0 (codes "legacy") false ∷ SetDefault 0 [] ∷ []
+opens = refl
+
+pub opened : IsOpened two_activations (
+    entry 0 (Load 0 (codes "default") false) (Loaded 1 1 0)
+    ∷ entry 0 (Load 0 (codes "legacy") false) (Loaded 2 2 0)
+    ∷ entry 0 (SetDefault 0 []) Done
+    ∷ []
+    )
+opened = record { caller = refl; calls = refl; loaded = refl }
+
+pub ended_early : IsEnded two_activations (entry 0 (Load 0 (codes "default") false) (Loaded 1 1 0) ∷ entry 0 (Load 0 (codes "legacy") false) NoProvider ∷ [])
+ended_early = record { caller = refl; calls = refl; loaded = refl; ended = refl }
+
+-- the newest activation goes first, and the library contexts close from 0 up
+pub closes : closing_calls 2 (1 ∷ 2 ∷ []) ≡ Unload 2 ∷ Unload 1 ∷ CloseLib 0 ∷ CloseLib 1 ∷ []
+closes = refl
+
+-- 6. The error lines.
+
+pub usage_line : error_text lines.Usage ≡ codes "error usage\n"
+usage_line = refl
+
+pub limit_line : error_text (lines.Limit limits.Callers) ≡ codes "error limit callers\n"
+limit_line = refl
+
+pub batch_line_text : error_text (lines.Batch 1 kinds.Data) ≡ codes "error batch line 1 data\n"
+unfolding digits
+batch_line_text = refl
+
+pub provider_line : error_text (lines.Provider (codes "f o")) ≡ codes "error provider f?o\n"
+provider_line = refl
+
+pub configuration_line : error_text (lines.Configuration (refusals.NoVariable 1 (codes "nosuch"))) ≡ codes "error configuration line 1 variable nosuch\n"
+unfolding digits
+configuration_line = refl
+
+pub configuration_status : error_status (lines.Configuration (refusals.Line 3 Equals)) ≡ 5
+configuration_status = refl

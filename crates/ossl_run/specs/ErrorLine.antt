@@ -1,0 +1,25 @@
+-- The error lines, with the statuses at which they are written.
+use Rattle.std.specs.Prelude.{ℕ, List, ◌++◌, codes}
+use Rattle.std.specs.Fmt.{decimal}
+use Rattle.ossl_conf.specs.Refused.{refusal_text, shown}
+use Rattle.ossl_script.specs.Kind.{kind_word}
+use Rattle.ossl_script.specs.Limit.{limit_word}
+use Rattle.ossl_run.specs.declared.error_line.ErrorLine.{ErrorLine}
+use Rattle.ossl_run.specs.declared.error_line.ErrorLine.TheVariants.{Usage, Read, Configuration, Batch, Limit, Provider}
+
+abbrev pub error_status : ErrorLine → ℕ
+error_status Usage = 2
+error_status Read = 3
+error_status (Configuration refusal) = 5
+error_status (Batch number kind) = 6
+error_status (Limit limit) = 7
+error_status (Provider name) = 8
+
+-- the line with its line feed; a byte of a name outside 33 to 126 is shown as `?`
+abbrev pub error_text : ErrorLine → List ℕ
+error_text Usage = codes "error usage\n"
+error_text Read = codes "error read\n"
+error_text (Configuration refusal) = refusal_text refusal
+error_text (Batch number kind) = codes "error batch line " ++ decimal number ++ codes " " ++ kind_word kind ++ codes "\n"
+error_text (Limit limit) = codes "error limit " ++ limit_word limit ++ codes "\n"
+error_text (Provider name) = codes "error provider " ++ shown name ++ codes "\n"

@@ -1,0 +1,111 @@
+-- The order of a run: whose turn it is after the entries so far, by a list of callers, and behind the list by the order of the text.
+use Rattle.std.specs.Prelude.{ℕ, ◌≡◌, ◌≤◌, ⊤, nat_lt, Ok, Option, Some, None, option_map, List, [], ◌∷◌, ◌++◌, filter_map, fold, map, if◌then◌else◌}
+use Rattle.std.specs.List.{flat_map, range_with_len}
+use Rattle.std.specs.Option.{option_or}
+use Rattle.ossl_base.specs.declared.entry.Entry.{Entry}
+use Rattle.ossl_calls.specs.declared.call.Call.{Call}
+use Rattle.ossl_calls.specs.declared.call.Reply.{Reply}
+use Rattle.ossl_conf.specs.View.{SettingsView}
+use Rattle.ossl_script.specs.declared.caller.Next.{Next}
+use Rattle.ossl_script.specs.declared.caller.Next.TheVariants as nexts
+use Rattle.ossl_script.specs.Counts.{callers_of}
+use Rattle.ossl_script.specs.Judging.{commands_of}
+use Rattle.ossl_run.specs.declared.turns.Turn.{Turn}
+use Rattle.ossl_run.specs.Batched.{Batch, giving_back_of, next_of, replies_to}
+use Rattle.ossl_run.specs.Opening.{IsClosed, IsOpened}
+
+-- the turn of a caller that has a call left of a line
+abbrev pub turn_of : ℕ → Next → Option Turn
+turn_of caller (nexts.Call line call) = Some (record { caller = caller; line = line })
+turn_of caller nexts.End = None
+
+-- the turn of a caller after the entries so far
+abbrev pub turn_at : Batch → List (Entry Call Reply) → ℕ → Option Turn
+turn_at batch past caller = turn_of caller (next_of batch caller (replies_to caller past))
+
+-- the callers of a batch, ascending
+abbrev pub callers_in : Batch → List ℕ
+callers_in batch = range_with_len 1 (callers_of batch.lines)
+
+-- of two turns the one of the lesser line
+abbrev pub lesser : Option Turn → Turn → Option Turn
+lesser None turn = Some turn
+lesser (Some first) turn = if nat_lt turn.line first.line then Some turn else Some first
+
+-- the turn of the least line
+abbrev pub least : List Turn → Option Turn
+least turns = fold lesser None turns
+
+-- a turn, with what is left of the list
+pub record Drawn : Type 0 where
+  pub turn : Turn
+  pub rest : List ℕ
+
+abbrev pub drawn : List ℕ → Option Turn → Option Drawn
+drawn rest turn = option_map (λ turn. record { turn = turn; rest = rest }) turn
+
+-- the first caller of the list that has a call left; those before it are passed over
+abbrev pub listed : Batch → List (Entry Call Reply) → List ℕ → Option Drawn
+listed batch past [] = None
+listed batch past (caller ∷ list) = option_or (drawn list (turn_at batch past caller)) (listed batch past list)
+
+-- behind the list the caller whose next call has the least line
+abbrev pub waiting : Batch → List (Entry Call Reply) → Option Turn
+waiting batch past = least (filter_map (turn_at batch past) (callers_in batch))
+
+-- whose turn it is; none where no line has a call left
+abbrev pub next_turn : Batch → List (Entry Call Reply) → List ℕ → Option Drawn
+next_turn batch past list = option_or (listed batch past list) (drawn [] (waiting batch past))
+
+-- an entry is a turn: the next call of its caller, of that line
+pub record IsTurn (batch : Batch) (past : List (Entry Call Reply)) (turn : Turn) (e : Entry Call Reply) : Type 0 where
+  pub caller : e.caller ≡ turn.caller
+  pub call : next_of batch e.caller (replies_to e.caller past) ≡ nexts.Call turn.line e.call
+
+-- behind the entries so far, the entries are the turns, one by one, until no line has a call left
+abbrev pub IsInTurn : Batch → List ℕ → List (Entry Call Reply) → List (Entry Call Reply) → Type 0
+IsInTurn batch list past [] = next_turn batch past list ≡ None
+IsInTurn batch list past (e ∷ es) =
+    (next : Drawn) × (next_turn batch past list ≡ Some next) × IsTurn batch past next.turn e × IsInTurn batch next.rest (past ++ e ∷ []) es
+
+-- a caller together with a call
+abbrev pub by_caller : ℕ → Call → ℕ × Call
+by_caller caller call = (caller, call)
+
+-- then each caller, ascending, gives back what it holds
+abbrev pub returning_calls : Batch → List (Entry Call Reply) → List (ℕ × Call)
+returning_calls batch past = flat_map (λ caller. map (by_caller caller) (giving_back_of batch caller (replies_to caller past))) (callers_in batch)
+
+-- a finished run in the order of a list: the opening, the lines in turn, what callers give back, and the closing
+pub record IsRunInOrder (settings : SettingsView) (contexts : ℕ) (batch : Batch) (list : List ℕ) (entries : List (Entry Call Reply)) : Type 0 where
+  pub opening : List (Entry Call Reply)
+  pub turns : List (Entry Call Reply)
+  pub returning : List (Entry Call Reply)
+  pub closing : List (Entry Call Reply)
+  pub parts : entries ≡ opening ++ turns ++ returning ++ closing
+  pub opened : IsOpened settings opening
+  pub in_turn : IsInTurn batch list [] turns
+  pub returned : map (λ e. by_caller e.caller e.call) returning ≡ returning_calls batch turns
+  pub closed : IsClosed contexts opening closing
+
+-- the number of the line of a call that comes next
+abbrev pub line_in : Next → List ℕ
+line_in (nexts.Call line call) = line ∷ []
+line_in nexts.End = []
+
+-- the numbers of the lines of which the entries are turns, behind the entries so far
+abbrev pub lines_from : Batch → List (Entry Call Reply) → List (Entry Call Reply) → List ℕ
+lines_from batch past [] = []
+lines_from batch past (e ∷ es) = line_in (next_of batch e.caller (replies_to e.caller past)) ++ lines_from batch (past ++ e ∷ []) es
+
+-- none of these numbers is less than the one before it, and the first is at least this
+abbrev pub NeverFalls : ℕ → List ℕ → Type 0
+NeverFalls least [] = ⊤
+NeverFalls least (number ∷ numbers) = (least ≤ number) × NeverFalls number numbers
+
+-- without a list the lines run one after the other, in the order of the text
+abbrev pub OrderOfText : Type 0
+OrderOfText = (text : List ℕ) (batch : Batch) (entries : List (Entry Call Reply))
+    → commands_of text ≡ Ok batch.lines
+    → IsInTurn batch [] [] entries
+    → NeverFalls 0 (lines_from batch [] entries)
