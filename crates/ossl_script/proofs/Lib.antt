@@ -10,3 +10,4 @@ pub mod RenamingLaws
 pub mod OwnLaws
 pub mod OwnedLaws
 pub mod ContextLaws
+pub mod AllowedLaws

@@ -5,7 +5,8 @@ use Rattle.ossl_calls.specs.declared.call.Call.{Call}
 use Rattle.ossl_calls.specs.declared.call.Call.TheVariants.{Unload, UpRef, Free, NewCtx, FreeCtx}
 use Rattle.ossl_calls.specs.declared.call.Reply.{Reply}
 use Rattle.ossl_calls.specs.declared.call.Reply.TheVariants.{Loaded, Fetched, Made}
-use Rattle.ossl_calls.specs.Tokens.{Token, names_context, owns, owns_named}
+use Rattle.ossl_calls.specs.History.{Fixed, IsAllowed, IsLegal}
+use Rattle.ossl_calls.specs.Tokens.{Token, names_context, owns, owns_named, entries_of}
 use Rattle.ossl_script.specs.declared.caller.Next.{Next}
 use Rattle.ossl_script.specs.declared.caller.Next.TheVariants as nexts
 use Rattle.ossl_script.specs.declared.command.Line.{Line}
@@ -70,6 +71,24 @@ GivingBackIsOwned = (lines : List Line) (contents : List (List ℕ)) (caller : �
     → Rises 0 made
     → map (λ e. e.call) given ++ call ∷ more ≡ giving_back lines contents caller (map (λ e. e.reply) made)
     → owns_named (made ++ given) call ≡ true
+
+-- where a caller's entries in a legal history are the calls that came next, it may make the call that comes next, over at least as many library contexts as the batch names
+abbrev pub CallsAreAllowed : Type 0
+CallsAreAllowed = (lines : List Line) (contents : List (List ℕ)) (caller : ℕ) (fixed : Fixed) (history : List (Entry Call Reply)) (number line : ℕ) (call : Call)
+    → IsLegal fixed history
+    → Follows lines contents caller [] (entries_of number history)
+    → contexts_of lines ≤ fixed.contexts
+    → next_call lines contents caller (map (λ e. e.reply) (entries_of number history)) ≡ nexts.Call line call
+    → IsAllowed fixed (entries_of number history) call
+
+-- and where those that give back came behind these, it may make the next one that gives back
+abbrev pub GivingBackIsAllowed : Type 0
+GivingBackIsAllowed = (lines : List Line) (contents : List (List ℕ)) (caller : ℕ) (fixed : Fixed) (history : List (Entry Call Reply)) (number : ℕ) (made given : List (Entry Call Reply)) (call : Call) (more : List Call)
+    → IsLegal fixed history
+    → entries_of number history ≡ made ++ given
+    → Follows lines contents caller [] made
+    → map (λ e. e.call) given ++ call ∷ more ≡ giving_back lines contents caller (map (λ e. e.reply) made)
+    → IsAllowed fixed (entries_of number history) call
 
 -- a reply with other numbers of tokens and instances
 abbrev pub renumbered : (ℕ → ℕ) → (ℕ → ℕ) → Reply → Reply

@@ -2,7 +2,7 @@
 
 ghost use Rattle.std.specs.Prelude.{◌≡◌, option_map};
 ghost use Rattle.ossl_script.specs.Caller.{call_in};
-ghost use Rattle.ossl_script.specs.Laws.{CallsAreOwned, CallsNameContexts};
+ghost use Rattle.ossl_script.specs.Laws.{CallsAreAllowed, CallsAreOwned, CallsNameContexts};
 
 use ossl_base::text::Text;
 use ossl_calls::Call;
@@ -19,11 +19,13 @@ pub enum Next {
 impl Next {
     /// The call that comes next, if one does.
     ///
-    /// A caller may make each call that comes next: it owns the tokens that the call names, and the library context is one that the batch names.
+    /// In a legal history a caller may make each call that comes next: it owns the tokens that the call names, and the library context is one that the
+    /// batch names.
     pub fn call(&self) -> Option<&Call>
         ensures call { option_map (λ call. call.now) result ≡ call_in self.now }
         ensures owned { CallsAreOwned }
         ensures within { CallsNameContexts }
+        ensures allowed { CallsAreAllowed }
     {
         match self {
             Next::Call { call, .. } => Some(call),

@@ -2,7 +2,7 @@
 
 ghost use Rattle.std.specs.Prelude.{◌≡◌};
 ghost use Rattle.ossl_script.specs.Held.{give_back_call, handed_out};
-ghost use Rattle.ossl_script.specs.Laws.{GivingBackIsOwned, GivingBackLeavesNone, HeldIsOwned};
+ghost use Rattle.ossl_script.specs.Laws.{GivingBackIsAllowed, GivingBackIsOwned, GivingBackLeavesNone, HeldIsOwned};
 
 use ossl_calls::{Call, Reply};
 
@@ -48,6 +48,7 @@ impl Held {
     pub fn give_back(self) -> Call
         ensures call { result ≡ give_back_call self }
         ensures owned { GivingBackIsOwned }
+        ensures allowed { GivingBackIsAllowed }
         ensures leaves_none { GivingBackLeavesNone }
     {
         match self.kind {

@@ -1,3 +1,4 @@
+use Rattle.ossl_script.proofs.AllowedLaws.{calls_are_allowed}
 use Rattle.ossl_script.proofs.ContextLaws.{calls_name_contexts}
 use Rattle.ossl_script.proofs.OwnedLaws.{calls_are_owned}
 use Rattle.ossl_script.proofs.caller.Next.call.Goals as goal
@@ -13,3 +14,9 @@ returns-in-Call-clause-within c = calls_name_contexts
 
 pub returns-in-End-clause-within : goal.returns-in-End-clause-within
 returns-in-End-clause-within c = calls_name_contexts
+
+pub returns-in-Call-clause-allowed : goal.returns-in-Call-clause-allowed
+returns-in-Call-clause-allowed c = calls_are_allowed
+
+pub returns-in-End-clause-allowed : goal.returns-in-End-clause-allowed
+returns-in-End-clause-allowed c = calls_are_allowed
