@@ -1,6 +1,6 @@
 -- In a legal history a caller may make each call that comes next, and each that gives back.
 use Rattle.std.proofs.Common.{◌≡◌, ℕ, ◌+◌, ◌≤◌, Bool, true, false, nat_eq, List, [], ◌∷◌, ◌++◌, map, refl, sym, ap, subst, arith}
-use Rattle.std.specs.Prelude.{⊤, IsTrue, cond, filter, Option, None, Some}
+use Rattle.std.specs.Prelude.{⊤, cond, Option, None, Some}
 use Rattle.ossl_base.specs.declared.entry.Entry.{Entry}
 use Rattle.ossl_calls.specs.declared.call.Call.{Call}
 use Rattle.ossl_calls.specs.declared.call.Call.TheVariants as calls
@@ -9,8 +9,8 @@ use Rattle.ossl_calls.specs.declared.call.Reply.TheVariants as replies
 use Rattle.ossl_calls.specs.declared.state.State.{State}
 use Rattle.ossl_calls.specs.Best.{best_method}
 use Rattle.ossl_calls.specs.Boxes.{place_of}
-use Rattle.ossl_calls.specs.History.{Fixed, IsAllowed, IsLegal, IsRun, after_entry}
-use Rattle.ossl_calls.specs.Step.{Answers, IsLoaded, after_fallback, fetched_of}
+use Rattle.ossl_calls.specs.History.{Fixed, IsLegal, IsRun, after_entry}
+use Rattle.ossl_calls.specs.Step.{Answers, IsLoaded, after_fallback}
 use Rattle.ossl_calls.specs.Tokens.{entries_of, names_context, owns_named}
 use Rattle.ossl_calls.proofs.HistoryLaws.{left_by-next}
 use Rattle.ossl_calls.proofs.TokenLaws.{fetched_some}
