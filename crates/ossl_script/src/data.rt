@@ -1,6 +1,8 @@
 //! Data as a word says it.
 
-ghost use Rattle.std.specs.Prelude.{◌≡◌, IfOk, option_map, option_and_then};
+ghost use Rattle.std.specs.Prelude.{◌≡◌, ◌++◌, [], IfOk, OnErr, OnOk, option_map, option_and_then};
+ghost use Rattle.ossl_script.specs.Counts.{for_file};
+ghost use Rattle.ossl_script.specs.Given.{data_bytes};
 ghost use Rattle.ossl_script.specs.Words.{cut_at, data_of, data_forms, hex_of, copies_of, looked_up, number_of, some_text};
 
 use crate::command::Data;
@@ -89,4 +91,42 @@ impl Data {
             None => Ok(None),
         }
     }
+
+    /// Appends the bytes that the data stands for, where the files of these names have these contents; a file that is not among them has none.
+    pub fn put(
+        &self,
+        alloc: Global,
+        out: &mut Vec<u8>,
+        files: &[Text],
+        contents: &[Bytes],
+    ) -> Result<(), AllocError>
+        ensures ok { OnOk result (out.new.items ≡ out.old.items ++ data_bytes (for_file [] files.now contents.now) self.now) }
+        ensures err { OnErr result (out.new.items ≡ out.old.items) }
+    {
+        match self {
+            Data::Bytes(bytes) => out.extend_from_slice(bytes.as_slice()),
+            Data::Copies { count, byte } => {
+                let copies = vec![in alloc; *byte; *count as usize]?;
+                out.extend_from_slice(copies.as_slice())
+            }
+            Data::File(name) => {
+                out.extend_from_slice(content_of(files, contents, name.as_slice()))
+            }
+        }
+    }
+}
+
+/// What the file of the name has.
+fn content_of<'a>(files: &[Text], contents: &'a [Bytes], name: &[u8]) -> &'a [u8]
+    ensures { result.now ≡ for_file [] files.now contents.now name.now }
+{
+    for (i, file) in files.iter().enumerate() {
+        if file.as_slice() == name {
+            return match contents.get(i) {
+                Some(content) => content.as_slice(),
+                None => &[],
+            };
+        }
+    }
+    &[]
 }

@@ -84,3 +84,22 @@ fn a_line_is_its_callers(rt: HostRuntime) {
     assert!(rt; line.is_of(3));
     assert!(rt; !line.is_of(1));
 }
+
+// A file is looked up by its name; one that is not among the files has nothing.
+#[test]
+fn data_is_appended(rt: HostRuntime) -> Result<(), Fail> {
+    let alloc = rt.alloc();
+    let mut files = Vec::new(alloc);
+    files.push(Text::of(Vec::from_slice(alloc, b"a")?))?;
+    files.push(Text::of(Vec::from_slice(alloc, b"b")?))?;
+    let mut contents = Vec::new(alloc);
+    contents.push(Bytes::of(Vec::from_slice(alloc, b"first")?))?;
+    contents.push(Bytes::of(Vec::from_slice(alloc, b"second")?))?;
+    let mut out = Vec::new(alloc);
+    for word in ["file:b", "rep:3:2e", "text:x", "file:c"] {
+        let data = Data::of(alloc, word.as_bytes())?.ok_or("no data")?;
+        data.put(alloc, &mut out, files.as_slice(), contents.as_slice())?;
+    }
+    assert_eq!(rt; out.as_slice(), b"second...x".as_slice());
+    Ok(())
+}
