@@ -1,12 +1,15 @@
--- How a digester, an HMAC and a vector stand after some bytes, by what they held before.
+-- How a digester, an HMAC, a CMAC and a vector stand after some bytes, by what they held before.
 use Rattle.std.specs.Prelude.{◌≡◌, ℕ, List, [], ◌++◌}
-use Rattle.std.proofs.Common.{subst, sym, ap, ◌∙◌}
+use Rattle.std.proofs.Common.{refl, subst, sym, ap, ◌∙◌}
 use Rattle.std.proofs.lemmas.List.{append-nil, append_assoc}
 use Rattle.ossl_digests.specs.declared.hash.Hash.{Hash}
 use Rattle.ossl_digests.specs.declared.digester.Digester.{Digester}
 use Rattle.ossl_digests.specs.Holds as D
 use Rattle.ossl_hmac.specs.declared.hmac.Hmac.{Hmac}
 use Rattle.ossl_hmac.specs.Holds as M
+use Rattle.ossl_aes.specs.declared.block.Block.{Ghosts}
+use Rattle.ossl_cmac.specs.declared.state.Cmac.{Cmac}
+use Rattle.ossl_cmac.specs.Run.{mac_of}
 
 -- whatever the first held, the second holds that and the bytes x
 abbrev pub IsDigesterFed : Digester → List ℕ → Digester → Type 0
@@ -27,6 +30,16 @@ hmac-nothing a hash key m held = subst (M.Holds a hash key) (sym (append-nil m))
 
 pub hmac-joined : (a b c : Hmac) (x y : List ℕ) → IsHmacFed a x b → IsHmacFed b y c → IsHmacFed a (x ++ y) c
 hmac-joined a b c x y f g hash key m held = subst (M.Holds c hash key) (append_assoc m x y) (g hash key (m ++ x) (f hash key m held))
+
+-- whatever bytes come yet, the second makes of them what the first makes of x and them
+abbrev pub IsCmacFed : {C : Type 0} {g : Ghosts C} → Cmac C g → List ℕ → Cmac C g → Type 0
+IsCmacFed a x b = (rest : List ℕ) → mac_of a (x ++ rest) ≡ mac_of b rest
+
+pub cmac-nothing : {C : Type 0} {g : Ghosts C} (a : Cmac C g) → IsCmacFed a [] a
+cmac-nothing a rest = refl
+
+pub cmac-joined : {C : Type 0} {g : Ghosts C} (a b c : Cmac C g) (x y : List ℕ) → IsCmacFed a x b → IsCmacFed b y c → IsCmacFed a (x ++ y) c
+cmac-joined a b c x y f g rest = ap (mac_of a) (append_assoc x y rest) ∙ f (y ++ rest) ∙ g rest
 
 -- the second list is the first with the bytes x behind it
 abbrev pub IsAppended : List ℕ → List ℕ → List ℕ → Type 0

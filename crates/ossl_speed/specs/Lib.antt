@@ -1,5 +1,6 @@
 -- What the contracts of the program cite.
 pub mod Message
+pub mod Aes
 pub mod Values
 pub mod Bytes
 pub mod Fed

@@ -6,8 +6,10 @@ ghost use Rattle.ossl_speed.specs.Streams.{rc4_text, chacha_text};
 
 use crate::intake::{Intake, take_message};
 use crate::message::PIECE;
+use ossl_aes::Block;
 use ossl_chacha::ChaCha;
 use ossl_legacy::Rc4;
+use ossl_modes::Mode;
 use std::alloc::{AllocError, Global};
 
 /// The bytes of a text that are its value.
@@ -50,6 +52,25 @@ impl Cipher for Rc4 {
 
     fn end(self, _out: &mut Vec<u8>) -> Result<(), AllocError> {
         Ok(())
+    }
+}
+
+impl<C: Block + Drop> Cipher for Mode<C> {
+    ghost use Rattle.ossl_speed.specs.Streams.{text_of_mode};
+
+    ghost text = { λ mode bytes. text_of_mode mode bytes };
+
+    #[inline(always)]
+    fn crypt(&mut self, bytes: &[u8], out: &mut Vec<u8>) -> Result<(), AllocError> {
+        self.feed(bytes, out)
+    }
+
+    fn end(self, out: &mut Vec<u8>) -> Result<(), AllocError> {
+        match self.finish(out) {
+            Ok(()) => Ok(()),
+            // The words ask for whole blocks where the mode wants them, so memory is what lacks.
+            Err(_) => Err(AllocError),
+        }
     }
 }
 

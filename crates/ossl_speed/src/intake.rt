@@ -2,6 +2,8 @@ ghost use Rattle.std.specs.Prelude.{◌≡◌, ℕ, List, [], ◌++◌, OnOk};
 ghost use Rattle.ossl_speed.specs.Message.{message};
 
 use crate::message::{PIECE, front};
+use ossl_aes::Block;
+use ossl_cmac::Cmac;
 use ossl_digests::Digester;
 use ossl_hmac::Hmac;
 use std::alloc::AllocError;
@@ -61,6 +63,22 @@ impl Intake for Hmac {
     ghost nothing = { hmac-nothing };
 
     ghost joined = { hmac-joined };
+
+    #[inline(always)]
+    fn take_piece(&mut self, bytes: &[u8]) -> Result<(), AllocError> {
+        self.feed(bytes);
+        Ok(())
+    }
+}
+
+impl<C: Block> Intake for Cmac<C> {
+    ghost use Rattle.ossl_speed.specs.Fed.{IsCmacFed, cmac-nothing, cmac-joined};
+
+    ghost fed = { λ a x b. IsCmacFed a x b };
+
+    ghost nothing = { λ a. cmac-nothing a };
+
+    ghost joined = { λ a b c x y. cmac-joined a b c x y };
 
     #[inline(always)]
     fn take_piece(&mut self, bytes: &[u8]) -> Result<(), AllocError> {

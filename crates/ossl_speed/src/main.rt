@@ -3,6 +3,7 @@
 //! 16 KiB, and the last value is printed, of a text its last 64 bytes. Work grows with LENGTH and COUNT.
 #![tactic(auto)]
 
+mod aes;
 mod algorithm;
 mod cipher;
 mod intake;

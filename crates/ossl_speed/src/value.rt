@@ -6,7 +6,8 @@ ghost use Rattle.ossl_speed.specs.Message.{message};
 ghost use Rattle.ossl_speed.specs.Values.{value_of};
 ghost use Rattle.ossl_speed.specs.Bytes.{bytes_of};
 
-use crate::algorithm::Algorithm;
+use crate::aes::aes_value;
+use crate::algorithm::{Algorithm, KeySize};
 use crate::cipher::end_of_text;
 use crate::intake::take_message;
 use crate::message::{PIECE, front};
@@ -33,6 +34,7 @@ const DERIVED: u64 = 42;
 #[derive(Drop)]
 pub enum Value {
     Digest(HashValue),
+    Block([u8; 16]),
     Text(Vec<u8>),
 }
 
@@ -43,6 +45,7 @@ impl Value {
     {
         match self {
             Value::Digest(value) => value.as_slice(),
+            Value::Block(block) => block,
             Value::Text(bytes) => bytes.as_slice(),
         }
     }
@@ -73,6 +76,11 @@ pub fn value_of(
             };
             Ok(Value::Text(end_of_text(alloc, cipher, piece, length)?))
         }
+        Algorithm::Aes(size, work) => match size {
+            KeySize::Bits128 => aes_value::<4, 44>(alloc, work, piece, length),
+            KeySize::Bits192 => aes_value::<6, 52>(alloc, work, piece, length),
+            KeySize::Bits256 => aes_value::<8, 60>(alloc, work, piece, length),
+        },
     }
 }
 
@@ -118,8 +126,8 @@ fn derived(alloc: Global, hash: Hash, piece: &[u8], length: usize) -> Result<Vec
     }
 }
 
-// The message of as many bytes as are wanted, as an array.
-fn first_bytes<const N: usize>(piece: &[u8]) -> [u8; N]
+/// The message of as many bytes as are wanted, as an array.
+pub fn first_bytes<const N: usize>(piece: &[u8]) -> [u8; N]
     requires piece { piece.now ≡ message PIECE }
     requires within { N ≤ PIECE }
     ensures { result ≡ message N }

@@ -32,8 +32,8 @@ impl Work {
     }
 }
 
-/// The work that three words name: an algorithm, a length of at most 1,073,741,824 bytes, and a count
-/// of at least 1.
+/// The work that three words name: an algorithm, a length of at most 1,073,741,824 bytes, in whole blocks where it wants
+/// those, and a count of at least 1.
 pub fn read_words(words: &[String]) -> Option<Work> {
     let [name, length, count] = words else {
         return None;
@@ -41,7 +41,7 @@ pub fn read_words(words: &[String]) -> Option<Work> {
     let algorithm = algorithm::named(name.as_str())?;
     let length = number(length.as_str())?;
     let count = number(count.as_str())?;
-    if length > LONGEST || count == 0 {
+    if length > LONGEST || count == 0 || (algorithm.wants_whole_blocks() && length % 16 != 0) {
         return None;
     }
     Some(Work {
