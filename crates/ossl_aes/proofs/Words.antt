@@ -1,6 +1,8 @@
 -- Words and their bytes.
-use Rattle.std.proofs.Common.{◌≡◌, ℕ, zero, suc, ◌+◌, ◌*◌, ◌/◌, ◌%◌, ◌^◌, ◌<◌, List, [], ◌∷◌, ◌++◌, get_or, bit_xor, refl, ap, ◌∙◌, arith}
-use Rattle.std.proofs.lemmas.Nat.{xor_shr, xor_mod, le_bytes_4, le_bytes_8}
+use Rattle.std.proofs.Common.{◌≡◌, ℕ, zero, suc, ◌+◌, ◌*◌, ◌/◌, ◌%◌, ◌^◌, ◌<◌, List, [], ◌∷◌, ◌++◌, get_or, bit_xor, refl, sym, ap, ◌∙◌, arith}
+use Rattle.std.proofs.lemmas.Nat.{xor_shr, xor_mod, xor_comm, le_bytes_4, le_bytes_8}
+use lib.Bits.{xor_assoc}
+use Rattle.std.specs.Int.Bits.{xor_zero_r}
 use Rattle.std.specs.Int.{w32, w64, swap_bytes, to_be_bytes, to_le_bytes, from_le_bytes}
 use Rattle.ossl_aes.specs.Cipher.{add}
 
@@ -17,15 +19,32 @@ bytes-xor x y =
     let e0 = xor_mod x y 8 in
     λ i. e3 i ∷ e2 i ∷ e1 i ∷ e0 i ∷ []
 
--- the bytes of a word that is a sum of four and then a key's
+-- a sum of four, begun with the last
+turned_sum : (a b c d : ℕ) → bit_xor (bit_xor (bit_xor d c) b) a ≡ bit_xor (bit_xor (bit_xor a b) c) d
+turned_sum a b c d =
+    xor_comm (bit_xor (bit_xor d c) b) a ∙ ap (bit_xor a) (xor_comm (bit_xor d c) b ∙ ap (bit_xor b) (xor_comm d c))
+    ∙ sym (xor_assoc a b (bit_xor c d)) ∙ sym (xor_assoc (bit_xor a b) c d)
+
+-- the bytes of a word that is a sum of four, begun with the last
 pub bytes-four : (a b c d : ℕ) (xs ys zs ws : List ℕ) → to_be_bytes w32 a ≡ xs → to_be_bytes w32 b ≡ ys → to_be_bytes w32 c ≡ zs
-    → to_be_bytes w32 d ≡ ws → to_be_bytes w32 (bit_xor (bit_xor (bit_xor a b) c) d) ≡ add (add (add xs ys) zs) ws
+    → to_be_bytes w32 d ≡ ws → to_be_bytes w32 (bit_xor (bit_xor (bit_xor d c) b) a) ≡ add (add (add xs ys) zs) ws
 bytes-four a b c d xs ys zs ws ea eb ec ed =
     let e1 = bytes-xor (bit_xor (bit_xor a b) c) d in
     let e2 = bytes-xor (bit_xor a b) c in
     let e3 = bytes-xor a b in
-    e1 ∙ ap (λ (t : List ℕ). add t (to_be_bytes w32 d)) (e2 ∙ ap (λ (t : List ℕ). add t (to_be_bytes w32 c)) e3)
+    ap (to_be_bytes w32) (turned_sum a b c d)
+    ∙ e1 ∙ ap (λ (t : List ℕ). add t (to_be_bytes w32 d)) (e2 ∙ ap (λ (t : List ℕ). add t (to_be_bytes w32 c)) e3)
     ∙ (λ i. add (add (add (ea i) (eb i)) (ec i)) (ed i))
+
+-- four bytes, each in a place of its own
+pub places_sum : (a b c d : ℕ) → add (add (add (a ∷ 0 ∷ 0 ∷ 0 ∷ []) (0 ∷ b ∷ 0 ∷ 0 ∷ [])) (0 ∷ 0 ∷ c ∷ 0 ∷ [])) (0 ∷ 0 ∷ 0 ∷ d ∷ []) ≡ a ∷ b ∷ c ∷ d ∷ []
+unfolding add
+places_sum a b c d =
+    let ea : bit_xor (bit_xor (bit_xor a 0) 0) 0 ≡ a = xor_zero_r _ ∙ xor_zero_r _ ∙ xor_zero_r a in
+    let eb : bit_xor (bit_xor (bit_xor 0 b) 0) 0 ≡ b = xor_zero_r _ ∙ xor_zero_r _ ∙ xor_comm 0 b ∙ xor_zero_r b in
+    let ec : bit_xor (bit_xor 0 c) 0 ≡ c = xor_zero_r _ ∙ xor_comm 0 c ∙ xor_zero_r c in
+    let ed : bit_xor 0 d ≡ d = xor_comm 0 d ∙ xor_zero_r d in
+    λ i. ea i ∷ eb i ∷ ec i ∷ ed i ∷ []
 
 pub four_fit : (x y z w : ℕ) → x < 256 → y < 256 → z < 256 → w < 256 → (i : ℕ) → get_or (x ∷ y ∷ z ∷ w ∷ []) i 0 < 256
 four_fit x y z w hx hy hz hw zero = hx

@@ -1,4 +1,5 @@
-//! The rounds of the cipher on four words that hold the state, a column each, top row in the highest byte.
+//! The rounds of the cipher on four words that hold the state, a column each, top row in the highest byte. A column is summed
+//! from its bottom row up: the lowest byte of a word is got in one step, so the sum begins with what is there first.
 
 ghost use Rattle.std.specs.Prelude.{◌≡◌, ◌<◌, List, [], ◌∷◌};
 ghost use Rattle.std.specs.Int.{w32, to_be_bytes};
@@ -6,7 +7,7 @@ ghost use Rattle.ossl_aes.specs.Field.{sub, unsub};
 ghost use Rattle.ossl_aes.specs.Cipher.{column, enc_word, dec_word};
 ghost use Rattle.ossl_aes.specs.State.{state_of, round, last_round, inv_round, last_inv_round};
 
-use crate::tables::{DEC, ENC, SUB, UNSUB};
+use crate::tables::{DEC, ENC, SUB, SUB_WORDS, UNSUB, UNSUB_WORDS};
 
 /// The byte's image under the S-box (FIPS 197, 5.1.1).
 #[inline(always)]
@@ -46,14 +47,14 @@ pub fn dec_word(row: u8, byte: u8) -> u32
 fn enc_column(a: u8, b: u8, c: u8, d: u8) -> u32
     ensures { to_be_bytes w32 result ≡ column 2 3 1 1 (sub a) (sub b) (sub c) (sub d) }
 {
-    ENC[a as usize] ^ ENC[256 + b as usize] ^ ENC[512 + c as usize] ^ ENC[768 + d as usize]
+    ENC[768 + d as usize] ^ ENC[512 + c as usize] ^ ENC[256 + b as usize] ^ ENC[a as usize]
 }
 
 #[inline(always)]
 pub fn dec_column(a: u8, b: u8, c: u8, d: u8) -> u32
     ensures { to_be_bytes w32 result ≡ column 14 11 13 9 (unsub a) (unsub b) (unsub c) (unsub d) }
 {
-    DEC[a as usize] ^ DEC[256 + b as usize] ^ DEC[512 + c as usize] ^ DEC[768 + d as usize]
+    DEC[768 + d as usize] ^ DEC[512 + c as usize] ^ DEC[256 + b as usize] ^ DEC[a as usize]
 }
 
 #[inline(always)]
@@ -94,14 +95,20 @@ pub fn dec_round(s: [u32; 4], k: [u32; 4]) -> [u32; 4]
 fn sub_column(a: u8, b: u8, c: u8, d: u8) -> u32
     ensures { to_be_bytes w32 result ≡ sub a ∷ sub b ∷ sub c ∷ sub d ∷ [] }
 {
-    u32::from_be_bytes([sub(a), sub(b), sub(c), sub(d)])
+    SUB_WORDS[768 + d as usize]
+        ^ SUB_WORDS[512 + c as usize]
+        ^ SUB_WORDS[256 + b as usize]
+        ^ SUB_WORDS[a as usize]
 }
 
 #[inline(always)]
 fn unsub_column(a: u8, b: u8, c: u8, d: u8) -> u32
     ensures { to_be_bytes w32 result ≡ unsub a ∷ unsub b ∷ unsub c ∷ unsub d ∷ [] }
 {
-    u32::from_be_bytes([unsub(a), unsub(b), unsub(c), unsub(d)])
+    UNSUB_WORDS[768 + d as usize]
+        ^ UNSUB_WORDS[512 + c as usize]
+        ^ UNSUB_WORDS[256 + b as usize]
+        ^ UNSUB_WORDS[a as usize]
 }
 
 #[inline(always)]

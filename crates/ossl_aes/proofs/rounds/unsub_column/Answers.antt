@@ -1,8 +1,11 @@
-use Rattle.std.proofs.Common.{◌∷◌, [], ◌∙◌}
-use Rattle.ossl_aes.proofs.BlockFacts.{bytes_of_word}
+use Rattle.std.proofs.Common.{arith, ◌∙◌}
+use Rattle.ossl_aes.specs.Cipher.{add}
+use Rattle.ossl_aes.proofs.Words.{bytes-four, places_sum}
+use Rattle.ossl_aes.proofs.TableFacts.{unsub0_bytes, unsub1_bytes, unsub2_bytes, unsub3_bytes}
 use Rattle.ossl_aes.proofs.rounds.unsub_column.Goals as goal
 
 pub returns : goal.returns
 returns c =
-    bytes_of_word _ _ _ _ _ c.unsub.type_inv c.unsub-2.type_inv c.unsub-3.type_inv c.unsub-4.type_inv c.from_be_bytes.ensures
-    ∙ (λ i. c.unsub.ensures i ∷ c.unsub-2.ensures i ∷ c.unsub-3.ensures i ∷ c.unsub-4.ensures i ∷ [])
+    bytes-four _ _ _ _ _ _ _ _
+    (unsub0_bytes c.args.a (omega arith)) (unsub1_bytes c.args.b (omega arith)) (unsub2_bytes c.args.c (omega arith)) (unsub3_bytes c.args.d (omega arith))
+    ∙ places_sum _ _ _ _
