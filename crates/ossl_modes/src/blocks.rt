@@ -33,57 +33,42 @@ pub fn through<C: Block>(
     }
 }
 
-// Whole blocks through a mode in one direction.
-fn each_through<S: Step, C: Block>(
-    step: &S,
-    cipher: &C,
-    value: &mut [u8; 16],
-    bytes: &[u8],
-    out: &mut Vec<u8>,
-)
-    requires whole { length bytes.now % 16 ≡ 0 }
-    requires room { vec_len out.old + length bytes.now ≤ vec_capacity out.old }
-    ensures gives { out.new.items ≡ out.old.items ++ blocks (C.enc cipher.now) (C.dec cipher.now) (S.kind step.now) (S.decrypt step.now) (length bytes.now / 16) value.old bytes.now }
-    ensures next { value.new ≡ value_after (C.enc cipher.now) (C.dec cipher.now) (S.kind step.now) (S.decrypt step.now) (length bytes.now / 16) value.old bytes.now }
-    ensures len { vec_len out.new ≡ vec_len out.old + length bytes.now }
-    ensures capacity { vec_capacity out.old ≤ vec_capacity out.new }
+// Whole blocks through a mode in one direction, in place.
+fn each_through<S: Step, C: Block>(step: &S, cipher: &C, value: &mut [u8; 16], room: &mut [u8])
+    requires whole { length room.old % 16 ≡ 0 }
+    ensures gives { room.new ≡ blocks (C.enc cipher.now) (C.dec cipher.now) (S.kind step.now) (S.decrypt step.now) (length room.old / 16) value.old room.old }
+    ensures next { value.new ≡ value_after (C.enc cipher.now) (C.dec cipher.now) (S.kind step.now) (S.decrypt step.now) (length room.old / 16) value.old room.old }
 {
-    'block: for i in 0..bytes.len() / 16 {
+    'block: for i in 0..room.len() / 16 {
+        let place = &mut room[16 * i..16 * i + 16];
         let mut block = [0; 16];
-        block.copy_from_slice(&bytes[16 * i..16 * i + 16]);
+        block.copy_from_slice(place);
         let text = step.step(cipher, value, block);
-        match out.extend_from_slice(&text) {
-            Ok(()) => {}
-            Err(_) => unreachable!(),
-        }
+        place.copy_from_slice(&text);
     }
 }
 
-/// Whole blocks through the mode, into room that was made for them. Each mode and direction has a loop of its own, so
-/// that no block asks which it is.
+/// Whole blocks through the mode, in place. Each mode and direction has a loop of its own, so that no block asks which it
+/// is.
 pub fn through_all<C: Block>(
     cipher: &C,
     kind: ModeKind,
     decrypt: bool,
     value: &mut [u8; 16],
-    bytes: &[u8],
-    out: &mut Vec<u8>,
+    room: &mut [u8],
 )
-    requires whole { length bytes.now % 16 ≡ 0 }
-    requires room { vec_len out.old + length bytes.now ≤ vec_capacity out.old }
-    ensures gives { out.new.items ≡ out.old.items ++ blocks (C.enc cipher.now) (C.dec cipher.now) kind decrypt (length bytes.now / 16) value.old bytes.now }
-    ensures next { value.new ≡ value_after (C.enc cipher.now) (C.dec cipher.now) kind decrypt (length bytes.now / 16) value.old bytes.now }
-    ensures len { vec_len out.new ≡ vec_len out.old + length bytes.now }
-    ensures capacity { vec_capacity out.old ≤ vec_capacity out.new }
+    requires whole { length room.old % 16 ≡ 0 }
+    ensures gives { room.new ≡ blocks (C.enc cipher.now) (C.dec cipher.now) kind decrypt (length room.old / 16) value.old room.old }
+    ensures next { value.new ≡ value_after (C.enc cipher.now) (C.dec cipher.now) kind decrypt (length room.old / 16) value.old room.old }
 {
     match (kind, decrypt) {
-        (ModeKind::Ecb, false) => each_through(&EcbEncryption, cipher, value, bytes, out),
-        (ModeKind::Ecb, true) => each_through(&EcbDecryption, cipher, value, bytes, out),
-        (ModeKind::Cbc, false) => each_through(&CbcEncryption, cipher, value, bytes, out),
-        (ModeKind::Cbc, true) => each_through(&CbcDecryption, cipher, value, bytes, out),
-        (ModeKind::Cfb, false) => each_through(&CfbEncryption, cipher, value, bytes, out),
-        (ModeKind::Cfb, true) => each_through(&CfbDecryption, cipher, value, bytes, out),
-        (ModeKind::Ofb, _) => each_through(&Ofb { decrypt }, cipher, value, bytes, out),
-        (ModeKind::Ctr, _) => each_through(&Ctr { decrypt }, cipher, value, bytes, out),
+        (ModeKind::Ecb, false) => each_through(&EcbEncryption, cipher, value, room),
+        (ModeKind::Ecb, true) => each_through(&EcbDecryption, cipher, value, room),
+        (ModeKind::Cbc, false) => each_through(&CbcEncryption, cipher, value, room),
+        (ModeKind::Cbc, true) => each_through(&CbcDecryption, cipher, value, room),
+        (ModeKind::Cfb, false) => each_through(&CfbEncryption, cipher, value, room),
+        (ModeKind::Cfb, true) => each_through(&CfbDecryption, cipher, value, room),
+        (ModeKind::Ofb, _) => each_through(&Ofb { decrypt }, cipher, value, room),
+        (ModeKind::Ctr, _) => each_through(&Ctr { decrypt }, cipher, value, room),
     }
 }

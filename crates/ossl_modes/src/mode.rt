@@ -82,13 +82,18 @@ impl<C: Block> Mode<C> {
         ensures text { (rest : List ℕ) → 0 < length rest → before out.old.items (outcome_of self.old (bytes.now ++ rest)) ≡ before out.new.items (outcome_of self.new rest) }
         ensures unchecked { (rest : List ℕ) → out.old.items ++ whole_blocks_of self.old (bytes.now ++ rest) ≡ out.new.items ++ whole_blocks_of self.new rest }
     {
+        let start = out.len();
+        match out.extend_from_slice(bytes) {
+            Ok(()) => {}
+            Err(_) => unreachable!(),
+        }
+        let room = &mut out.as_mut_slice()[start..];
         through_all(
             &self.cipher,
             self.kind,
             self.decrypt,
             &mut self.value,
-            bytes,
-            out,
+            room,
         );
     }
 

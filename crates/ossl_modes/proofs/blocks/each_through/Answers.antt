@@ -1,4 +1,6 @@
-use Rattle.std.proofs.Common.{◌∙◌, arith}
+use Rattle.std.proofs.Common.{◌≡◌, ◌≤◌, ◌+◌, ◌-◌, ◌*◌, ◌++◌, ◌∙◌, ℕ, List, [], length, take, drop, ap, sym, refl, arith}
+use Rattle.std.proofs.lemmas.List.{drop-drop}
+use Rattle.std.proofs.lemmas.Slice.{take-put_mid, drop-put_mid}
 use Rattle.ossl_aes.proofs.Lists.{block_slice}
 use Rattle.ossl_modes.proofs.Steps.{given_none, value_none, given_then, value_given}
 use Rattle.ossl_modes.proofs.blocks.each_through.Goals as goal
@@ -9,13 +11,16 @@ block-init g c =
     let kind = g.S.Step.kind c.args.step.now in
     let decrypt = g.S.Step.decrypt c.args.step.now in
     let v = c.args.value.now in
-    let bytes = c.args.bytes.now in
+    let room = c.args.room.now in
     record {
-      gives = given_none (g.C.Block.enc cipher) (g.C.Block.dec cipher) kind decrypt v bytes c.args.out.now.items;
-      next = value_none (g.C.Block.enc cipher) (g.C.Block.dec cipher) kind decrypt v bytes;
-      len = omega arith;
-      capacity = omega arith;
+      gives = given_none (g.C.Block.enc cipher) (g.C.Block.dec cipher) kind decrypt v room [];
+      left = refl;
+      next = value_none (g.C.Block.enc cipher) (g.C.Block.dec cipher) kind decrypt v room;
     }
+
+-- what is left after one block more
+next_left : (i : ℕ) (xs : List ℕ) → drop 16 (drop (16 * i) xs) ≡ drop (16 * (i + 1)) xs
+next_left i xs = drop-drop 16 (16 * i) xs ∙ ap (λ (k : ℕ). drop k xs) (omega arith)
 
 pub block-preserved : goal.block-preserved
 block-preserved g c =
@@ -23,14 +28,20 @@ block-preserved g c =
     let kind = g.S.Step.kind c.args.step.now in
     let decrypt = g.S.Step.decrypt c.args.step.now in
     let v = c.args.value.now in
-    let bytes = c.args.bytes.now in
+    let bytes = c.args.room.now in
     let i = c.block.i in
-    let block = c.copy_from_slice.ensures.after ∙ block_slice i bytes in
+    let room = c.block.room in
+    let text = c.copy_from_slice-in-block.new.self in
+    let block = c.copy_from_slice.ensures.after ∙ block_slice i room ∙ ap (take 16) c.block.invariant.left in
+    let within : 16 * i ≤ length room = omega arith in
+    let long : length text ≡ 16 * i + 16 - 16 * i = omega arith in
     record {
-      gives = given_then (g.C.Block.enc cipher) (g.C.Block.dec cipher) kind decrypt i v bytes c.args.out.now.items _ _ _ _ _
-          c.block.invariant.gives c.block.invariant.next block c.step-text.ensures.gives c.in-Ok.ensures.items;
+      gives = given_then (g.C.Block.enc cipher) (g.C.Block.dec cipher) kind decrypt i v bytes [] _ _ _ _ _
+          c.block.invariant.gives c.block.invariant.next block c.step-text.ensures.gives
+          (take-put_mid (16 * i) (16 * i + 16 - 16 * i) room text (16 * (i + 1)) (omega arith) within
+          ∙ ap (λ (x : List ℕ). take (16 * i) room ++ x) c.copy_from_slice-in-block.ensures.after);
+      left = drop-put_mid (16 * i) (16 * i + 16 - 16 * i) room text (16 * (i + 1)) (omega arith) within long
+          ∙ sym (next_left i room) ∙ ap (drop 16) c.block.invariant.left ∙ next_left i bytes;
       next = value_given (g.C.Block.enc cipher) (g.C.Block.dec cipher) kind decrypt i v bytes _ _ _
           c.block.invariant.next block c.step-text.ensures.next;
-      len = omega (arith, c.in-Ok.ensures.len, c.block.invariant.len);
-      capacity = omega (arith, c.in-Ok.ensures.capacity, c.block.invariant.capacity);
     }
