@@ -5,4 +5,4 @@ mod RoundFacts
 mod ScheduleFacts
 mod TableFacts
 mod Vectors
-mod Words
+pub mod Words

@@ -65,7 +65,8 @@ eight_fit x y z w a b c d hx hy hz hw ha hb hc hd (suc (suc (suc (suc i)))) = fo
 pub turned_4 : (n : ℕ) → to_le_bytes w32 (swap_bytes w32 n) ≡ to_be_bytes w32 n
 turned_4 n = le_bytes_4 (to_be_bytes w32 n) (swap_bytes w32 n) refl (four_fit _ _ _ _ (omega arith) (omega arith) (omega arith) (omega arith)) (omega arith)
 
-turned_8 : (n : ℕ) → to_le_bytes w64 (swap_bytes w64 n) ≡ to_be_bytes w64 n
+-- the same of eight bytes
+pub turned_8 : (n : ℕ) → to_le_bytes w64 (swap_bytes w64 n) ≡ to_be_bytes w64 n
 turned_8 n =
     le_bytes_8 (to_be_bytes w64 n) (swap_bytes w64 n) refl
     (eight_fit _ _ _ _ _ _ _ _ (omega arith) (omega arith) (omega arith) (omega arith) (omega arith) (omega arith) (omega arith) (omega arith)) (omega arith)

@@ -88,13 +88,7 @@ impl<C: Block> Mode<C> {
             Err(_) => unreachable!(),
         }
         let room = &mut out.as_mut_slice()[start..];
-        through_all(
-            &self.cipher,
-            self.kind,
-            self.decrypt,
-            &mut self.value,
-            room,
-        );
+        through_all(&self.cipher, self.kind, self.decrypt, &mut self.value, room);
     }
 
     // Gives the held block, where it is whole and more bytes come.

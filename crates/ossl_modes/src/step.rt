@@ -1,6 +1,8 @@
-//! The modes block by block, each in one direction (SP 800-38A, 6.1 to 6.5).
+//! The modes block by block, each in one direction (SP 800-38A, 6.1 to 6.5). What stands for the IV next is stored before the
+//! cipher's work where it is known by then, so that it is in memory when the next block asks for it.
 
 ghost use Rattle.std.specs.Prelude.{◌≡◌, List, ℕ, Bool, true, false};
+ghost use Rattle.std.specs.Int.{w64, w128, to_be_bytes};
 ghost use Rattle.ossl_modes.specs.Modes.{next_counter, block_out, block_next};
 ghost use Rattle.ossl_modes.specs.declared.kinds.ModeKind.{ModeKind as Kind};
 
@@ -20,12 +22,31 @@ pub trait Step {
         ensures next { value.new ≡ block_next (C.enc cipher.now) (kind self.now) (decrypt self.now) value.old block };
 }
 
+#[inline(always)]
+fn half_bytes(half: u64) -> [u8; 8]
+    ensures { result ≡ to_be_bytes w64 half }
+{
+    half.swap_bytes().to_le_bytes()
+}
+
+// The block that a number is, in two halves: its 16 bytes at once are got one by one.
+#[inline(always)]
+fn number_bytes(n: u128) -> [u8; 16]
+    ensures { result ≡ to_be_bytes w128 n }
+{
+    let [x0, x1, x2, x3, x4, x5, x6, x7] = half_bytes((n / 0x1_0000_0000_0000_0000) as u64);
+    let [x8, x9, x10, x11, x12, x13, x14, x15] = half_bytes((n % 0x1_0000_0000_0000_0000) as u64);
+    [
+        x0, x1, x2, x3, x4, x5, x6, x7, x8, x9, x10, x11, x12, x13, x14, x15,
+    ]
+}
+
 // The counter after a counter.
 #[inline(always)]
 fn next_counter(v: [u8; 16]) -> [u8; 16]
     ensures { result ≡ next_counter v }
 {
-    u128::from_be_bytes(v).wrapping_add(1).to_be_bytes()
+    number_bytes(u128::from_be_bytes(v).wrapping_add(1))
 }
 
 /// Electronic Codebook.
@@ -80,9 +101,9 @@ impl Step for CbcDecryption {
 
     #[inline(always)]
     fn step<C: Block>(&self, cipher: &C, value: &mut [u8; 16], block: [u8; 16]) -> [u8; 16] {
-        let text = xor_blocks(cipher.decrypt(block), *value);
+        let before = *value;
         *value = block;
-        text
+        xor_blocks(cipher.decrypt(block), before)
     }
 }
 
@@ -149,8 +170,8 @@ impl Step for Ctr {
 
     #[inline(always)]
     fn step<C: Block>(&self, cipher: &C, value: &mut [u8; 16], block: [u8; 16]) -> [u8; 16] {
-        let stream = cipher.encrypt(*value);
-        *value = next_counter(*value);
-        xor_blocks(block, stream)
+        let counter = *value;
+        *value = next_counter(counter);
+        xor_blocks(block, cipher.encrypt(counter))
     }
 }
