@@ -1,5 +1,4 @@
-//! The modes block by block, each in one direction (SP 800-38A, 6.1 to 6.5). What stands for the IV next is stored before the
-//! cipher's work where it is known by then, so that it is in memory when the next block asks for it.
+//! The modes block by block, each in one direction (SP 800-38A, 6.1 to 6.5).
 
 ghost use Rattle.std.specs.Prelude.{◌≡◌, List, ℕ, Bool, true, false};
 ghost use Rattle.std.specs.Int.{w64, w128, to_be_bytes};
@@ -101,9 +100,9 @@ impl Step for CbcDecryption {
 
     #[inline(always)]
     fn step<C: Block>(&self, cipher: &C, value: &mut [u8; 16], block: [u8; 16]) -> [u8; 16] {
-        let before = *value;
+        let text = xor_blocks(cipher.decrypt(block), *value);
         *value = block;
-        xor_blocks(cipher.decrypt(block), before)
+        text
     }
 }
 
@@ -170,6 +169,7 @@ impl Step for Ctr {
 
     #[inline(always)]
     fn step<C: Block>(&self, cipher: &C, value: &mut [u8; 16], block: [u8; 16]) -> [u8; 16] {
+        // The next counter is stored before the cipher's work, so that it is in memory when the next block asks for it.
         let counter = *value;
         *value = next_counter(counter);
         xor_blocks(block, cipher.encrypt(counter))

@@ -1,5 +1,4 @@
 use Rattle.std.proofs.Common.{arith, ◌∙◌}
-use Rattle.ossl_aes.specs.Cipher.{add}
 use Rattle.ossl_aes.proofs.Words.{bytes-four, places_sum}
 use Rattle.ossl_aes.proofs.TableFacts.{sub0_bytes, sub1_bytes, sub2_bytes, sub3_bytes}
 use Rattle.ossl_aes.proofs.rounds.sub_column.Goals as goal

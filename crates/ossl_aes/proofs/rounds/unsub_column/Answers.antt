@@ -1,5 +1,4 @@
 use Rattle.std.proofs.Common.{arith, ◌∙◌}
-use Rattle.ossl_aes.specs.Cipher.{add}
 use Rattle.ossl_aes.proofs.Words.{bytes-four, places_sum}
 use Rattle.ossl_aes.proofs.TableFacts.{unsub0_bytes, unsub1_bytes, unsub2_bytes, unsub3_bytes}
 use Rattle.ossl_aes.proofs.rounds.unsub_column.Goals as goal
