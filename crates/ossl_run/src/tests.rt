@@ -2,9 +2,17 @@ ghost use Rattle.std.specs.Prelude.{◌≡◌, ◌≤◌, ◌<◌, length, map, 
 ghost use Rattle.ossl_provider.specs.Table.{table_facts, table_sheet};
 ghost use Rattle.ossl_calls.specs.Registry.{IsCatalogue, IsIdle};
 
+use crate::error_line::ErrorLine;
+use crate::opening::{closing_calls, opening_calls};
 use crate::replay::replay;
+use crate::results::{batch_caller, put_results};
+use crate::turns::{Turn, least};
+use ossl_base::digits::put_decimal;
 use ossl_base::{MemFiles, MemSink, MemSource, Text};
+use ossl_calls::{Call, put_call};
+use ossl_conf::{ConfRefused, Settings};
 use ossl_provider::{Boxed, Code, TableProvider, TableRow};
+use ossl_script::{Limit, LineKind, LineResult};
 use std::alloc::{AllocError, Global};
 use std::process::Abort;
 use std::test::Fail;
@@ -301,5 +309,83 @@ fn other_words_are_usage(rt: HostRuntime) -> Result<(), Fail> {
         ..PLAIN
     };
     compare(alloc, &rt, &[], &case, Vec::new(alloc))?;
+    Ok(())
+}
+
+fn put_calls(alloc: Global, out: &mut Vec<u8>, calls: &[Call]) -> Result<(), AllocError> {
+    for call in calls {
+        put_call(alloc, out, call)?;
+        out.extend_from_slice(b"\n")?;
+    }
+    Ok(())
+}
+
+#[test]
+fn the_program_opens_and_closes(rt: HostRuntime) -> Result<(), Fail> {
+    let alloc = rt.alloc();
+    let activations = Vec::from_array(alloc, [text(alloc, b"default")?])?;
+    let settings = Settings::new(activations, None);
+    let mut out = Vec::new(alloc);
+    put_calls(alloc, &mut out, opening_calls(alloc, &settings)?.as_slice())?;
+    put_calls(
+        alloc,
+        &mut out,
+        closing_calls(alloc, 2, &[1, 5])?.as_slice(),
+    )?;
+    assert_eq!(rt;
+        out.as_slice(),
+        b"load 0 default\nunload 5\nunload 1\ncloselib 0\ncloselib 1\n".as_slice()
+    );
+    Ok(())
+}
+
+#[test]
+fn errors_have_their_lines(rt: HostRuntime) -> Result<(), Fail> {
+    let alloc = rt.alloc();
+    let errors = [
+        ErrorLine::Usage,
+        ErrorLine::Read,
+        ErrorLine::Configuration(ConfRefused::BadQuery { place: 7 }),
+        ErrorLine::Batch {
+            number: 1,
+            kind: LineKind::Command,
+        },
+        ErrorLine::Limit(Limit::Callers),
+        ErrorLine::Provider(text(alloc, b"foo")?),
+    ];
+    let mut out = Vec::new(alloc);
+    for error in errors.as_slice() {
+        put_decimal(alloc, &mut out, u64::from(error.status()))?;
+        out.extend_from_slice(b" ")?;
+        error.put(alloc, &mut out)?;
+    }
+    let wanted =
+        b"2 error usage\n3 error read\n5 error configuration query 7\n6 error batch line 1 command\n\
+        7 error limit callers\n8 error provider foo\n";
+    assert_eq!(rt; out.as_slice(), wanted.as_slice());
+    Ok(())
+}
+
+#[test]
+fn callers_take_turns_and_have_results(rt: HostRuntime) -> Result<(), Fail> {
+    let alloc = rt.alloc();
+    let turns = [
+        Turn { caller: 1, line: 4 },
+        Turn { caller: 2, line: 2 },
+        Turn { caller: 3, line: 3 },
+    ];
+    assert!(rt; least(&turns) == Some(Turn { caller: 2, line: 2 }));
+    assert_eq!(rt; batch_caller(&[9, 4], 4), 2);
+    assert_eq!(rt; batch_caller(&[9, 4], 0), 0);
+    let results = [LineResult {
+        line: 3,
+        text: text(alloc, b"ok default")?,
+    }];
+    let mut out = Vec::new(alloc);
+    put_results(alloc, &mut out, results.as_slice())?;
+    assert_eq!(rt;
+        out.as_slice(),
+        b"results 1\nline 3 ok default\n".as_slice()
+    );
     Ok(())
 }
