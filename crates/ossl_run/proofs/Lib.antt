@@ -2,6 +2,7 @@
 pub mod PrintedLaws
 pub mod TurnLaws
 pub mod WorkedRuns
+pub mod WorkedPrints
 pub mod LineLaws
 pub mod OpenLaws
 pub mod HeldLaws

@@ -30,15 +30,15 @@ use Rattle.ossl_run.specs.Turns.{IsInTurn, IsRunInOrder, lines_from}
 
 -- 1. What the runs are written with.
 
-abbrev lines_in : Result (List Line) Fault → List Line
+abbrev pub lines_in : Result (List Line) Fault → List Line
 lines_in (Ok lines) = lines
 lines_in (Err fault) = []
 
 -- a batch of this text, without files
-abbrev batch_of : List ℕ → Batch
+abbrev pub batch_of : List ℕ → Batch
 batch_of text = record { lines = lines_in (commands_of text); contents = [] }
 
-abbrev entry : ℕ → Call → Reply → Entry Call Reply
+abbrev pub entry : ℕ → Call → Reply → Entry Call Reply
 entry c call reply = record { caller = c; call = call; reply = reply }
 
 -- a box without rows

@@ -1,0 +1,109 @@
+-- Worked runs as they are printed, by computation: what each call started and stopped, and the results.
+use Rattle.std.proofs.Common.{◌≡◌, ℕ, true, false, List, [], ◌∷◌, refl}
+use Rattle.std.specs.Prelude.{codes, None}
+use Rattle.std.specs.Fmt.{digits}
+use Rattle.ossl_base.specs.declared.entry.Entry.{Entry}
+use Rattle.ossl_provider.specs.Sheet.{Facts}
+use Rattle.ossl_provider.specs.declared.table.TableRow.{TableRow}
+use Rattle.ossl_codes.specs.declared.code.Code.TheVariants.{Sha256}
+use Rattle.ossl_codes.specs.declared.code.Operation.TheVariants.{Digest}
+use Rattle.ossl_names.specs.Addition.{number_for}
+use Rattle.ossl_names.specs.Groups.{number_of, with_names}
+use Rattle.ossl_property.specs.Reading.{list_at}
+use Rattle.ossl_property.specs.Said.{definition_said, query_said}
+use Rattle.ossl_calls.specs.declared.call.Call.{Call}
+use Rattle.ossl_calls.specs.declared.call.Call.TheVariants.{Load, Unload, Fetch, Free, NewCtx, FreeCtx, CloseLib}
+use Rattle.ossl_calls.specs.declared.call.Reply.{Reply}
+use Rattle.ossl_calls.specs.declared.call.Reply.TheVariants.{Loaded, Fetched, Made, Done, NoLib, StartRefused}
+use Rattle.ossl_calls.specs.History.{Fixed}
+use Rattle.ossl_run.specs.Printed.{lines_of, plainly, printed_batch}
+use Rattle.ossl_run.proofs.WorkedRuns.{batch_of, entry}
+
+-- a box with rows of these names
+abbrev row : List ℕ → TableRow
+row names = record { names = names; definition = []; code = Sha256 }
+
+abbrev box : List ℕ → List TableRow → Facts
+box name rows = record { name = name; rows = rows; admits = λ code len. true }
+
+abbrev sha256 : List TableRow
+sha256 = row (codes "SHA2-256") ∷ []
+
+abbrev one_box : Fixed
+one_box = record { facts = box (codes "default") sha256 ∷ []; contexts = 1; opened = 0 ∷ [] }
+
+abbrev two_boxes : Fixed
+two_boxes = record { facts = box (codes "A") sha256 ∷ box (codes "B") sha256 ∷ []; contexts = 1; opened = 0 ∷ 0 ∷ [] }
+
+abbrev fetch : Call
+fetch = Fetch 0 Digest (codes "SHA2-256") []
+
+-- two providers with equal rows, of which the first is loaded twice
+pub ties_printed : lines_of plainly two_boxes (
+    entry 1 (Load 0 (codes "A") false) (Loaded 1 1 0)
+    ∷ entry 2 (Load 0 (codes "B") false) (Loaded 2 2 0)
+    ∷ entry 2 (Load 0 (codes "A") false) (Loaded 3 1 0)
+    ∷ entry 1 (Unload 1) Done
+    ∷ entry 1 fetch (Fetched 5 (codes "A") 1 0 Sha256)
+    ∷ entry 1 (NewCtx 5 None 0) (Made 6)
+    ∷ entry 1 (FreeCtx 6) Done
+    ∷ entry 1 (Free 5) Done
+    ∷ entry 2 (Unload 3) Done
+    ∷ entry 2 (Unload 2) Done
+    ∷ entry 0 (CloseLib 0) Done
+    ∷ []
+    )
+    ≡ codes "1 1 load 0 A: ok 1 skipped 0; start A 1\n2 2 load 0 B: ok 2 skipped 0; start B 2\n3 2 load 0 A: ok 1 skipped 0\n4 1 unload 1: ok\n5 1 fetch 0 digest SHA2-256 []: ok A 1 0\n6 1 newctx 5 - 0: ok\n7 1 freectx 6: ok\n8 1 free 5: ok\n9 2 unload 3: ok; stop A 1\n10 2 unload 2: ok; stop B 2\n11 0 closelib 0: ok\n"
+unfolding definition_said list_at number_of number_for with_names digits
+ties_printed = refl
+
+-- an operation context that outlives the activation of its provider
+pub outlives_printed : lines_of plainly one_box (
+    entry 1 (Load 0 (codes "default") false) (Loaded 1 1 0)
+    ∷ entry 1 fetch (Fetched 2 (codes "default") 1 0 Sha256)
+    ∷ entry 1 (NewCtx 2 None 0) (Made 3)
+    ∷ entry 1 (Free 2) Done
+    ∷ entry 1 (Unload 1) Done
+    ∷ entry 1 (Load 0 (codes "default") false) (Loaded 6 1 0)
+    ∷ entry 1 (FreeCtx 3) Done
+    ∷ entry 1 (Unload 6) Done
+    ∷ entry 0 (CloseLib 0) Done
+    ∷ []
+    )
+    ≡ codes "1 1 load 0 default: ok 1 skipped 0; start default 1\n2 1 fetch 0 digest SHA2-256 []: ok default 1 0\n3 1 newctx 2 - 0: ok\n4 1 free 2: ok\n5 1 unload 1: ok\n6 1 load 0 default: ok 1 skipped 0\n7 1 freectx 3: ok\n8 1 unload 6: ok; stop default 1\n9 0 closelib 0: ok\n"
+unfolding definition_said list_at number_of number_for with_names digits
+outlives_printed = refl
+
+-- a library context that another caller closes, and a method that is freed after that
+pub closed_printed : printed_batch one_box (batch_of (codes "1 fetch 0 digest SHA2-256 M\n2 closelib 0\n1 fetch 0 digest SHA2-256 N\n1 free M")) (1 ∷ 2 ∷ []) None (
+    entry 1 fetch (Fetched 1 (codes "default") 1 0 Sha256)
+    ∷ entry 2 (CloseLib 0) Done
+    ∷ entry 1 fetch NoLib
+    ∷ entry 1 (Free 1) Done
+    ∷ entry 0 (CloseLib 0) NoLib
+    ∷ []
+    )
+    ≡ codes "order 5\n1 1 fetch 0 digest SHA2-256 []: ok default 1 0; start default 1\n2 2 closelib 0: ok\n3 1 fetch 0 digest SHA2-256 []: no context\n4 1 free 1: ok; stop default 1\n5 0 closelib 0: no context\nresults 4\nline 1 ok default\nline 2 ok\nline 3 error no context\nline 4 ok\n"
+unfolding definition_said query_said list_at number_of number_for with_names digits
+closed_printed = refl
+
+-- a box that refuses its second start
+pub refused_printed : printed_batch one_box (batch_of (codes "1 load 0 default A\n1 unload A\n1 load 0 default B\n1 load 0 default C")) (1 ∷ []) None (
+    entry 1 (Load 0 (codes "default") false) (Loaded 1 1 0)
+    ∷ entry 1 (Unload 1) Done
+    ∷ entry 1 (Load 0 (codes "default") false) (StartRefused (codes "default"))
+    ∷ entry 1 (Load 0 (codes "default") false) (Loaded 4 4 0)
+    ∷ entry 1 (Unload 4) Done
+    ∷ entry 0 (CloseLib 0) Done
+    ∷ []
+    )
+    ≡ codes "order 6\n1 1 load 0 default: ok 1 skipped 0; start default 1\n2 1 unload 1: ok; stop default 1\n3 1 load 0 default: start refused default\n4 1 load 0 default: ok 4 skipped 0; start default 4\n5 1 unload 4: ok; stop default 4\n6 0 closelib 0: ok\nresults 4\nline 1 ok skipped 0\nline 2 ok\nline 3 error start refused default\nline 4 ok skipped 0\n"
+unfolding definition_said list_at number_of number_for with_names digits
+refused_printed = refl
+
+-- a row whose names lie in two groups is left out, and counted
+pub skipped_printed : printed_batch (record { facts = box (codes "A") (row (codes "A:B") ∷ row (codes "C") ∷ row (codes "B:C") ∷ []) ∷ []; contexts = 1; opened = 0 ∷ [] })
+    (batch_of (codes "1 load 0 A X\n1 unload X")) (1 ∷ []) None (entry 1 (Load 0 (codes "A") false) (Loaded 1 1 1) ∷ entry 1 (Unload 1) Done ∷ entry 0 (CloseLib 0) Done ∷ [])
+    ≡ codes "order 3\n1 1 load 0 A: ok 1 skipped 1; start A 1\n2 1 unload 1: ok; stop A 1\n3 0 closelib 0: ok\nresults 2\nline 1 ok skipped 1\nline 2 ok\n"
+unfolding definition_said list_at number_of number_for with_names digits
+skipped_printed = refl
