@@ -106,10 +106,10 @@ ties_legal = (
   ),
 )
 
--- both are up
-pub both_up : up_at (state_after two_boxes one_unloaded) 0 ≡ 1 ∷ []
+-- the first is up
+pub first_up : up_at (state_after two_boxes one_unloaded) 0 ≡ 1 ∷ []
 unfolding definition_said list_at number_of number_for with_names
-both_up = refl
+first_up = refl
 
 -- so is the other
 pub other_up : up_at (state_after two_boxes one_unloaded) 1 ≡ 2 ∷ []
@@ -237,10 +237,10 @@ pub started_once : starts_at (state_after one_box loaded_again) 0 ≡ 1
 unfolding definition_said list_at number_of number_for with_names
 started_once = refl
 
--- and stopped with the last activation
-pub stopped_last : up_at (state_after one_box loaded_again) 0 ≡ []
+-- and is down at the end
+pub down_at_the_end : up_at (state_after one_box loaded_again) 0 ≡ []
 unfolding definition_said list_at number_of number_for with_names
-stopped_last = refl
+down_at_the_end = refl
 
 -- while it is held and not active, a fetch finds nothing in it
 pub not_active : IsNext one_box outlived (entry 1 fetch (Fetched 6 (codes "default") 1 0 Sha256)) → ⊥
@@ -355,6 +355,16 @@ off_stays_off h = let none = h.answers.1 in cc
 pub fallback_keeps : up_at (state_after one_box (entry 1 fetch (Fetched 1 (codes "default") 1 0 Sha256) ∷ load 2 1 ∷ entry 1 (Unload 2) Done ∷ entry 1 (Free 1) Done ∷ [])) 0 ≡ 1 ∷ []
 unfolding definition_said list_at number_of number_for with_names
 fallback_keeps = refl
+
+-- a fetch falls back to a provider that a load has made active: nothing is started
+pub falls_back_to_active : IsNext one_box (entry 1 (Load 0 (codes "default") true) (Loaded 1 1 0) ∷ []) (entry 1 fetch (Fetched 2 (codes "default") 1 0 Sha256))
+unfolding definition_said list_at number_of number_for with_names
+falls_back_to_active = record { allowed = record { lib = refl; tokens = refl }; answers = (refl, refl) }
+
+-- so no start can be refused in it
+pub nothing_to_refuse : IsNext one_box (entry 1 (Load 0 (codes "default") true) (Loaded 1 1 0) ∷ []) (entry 1 fetch (StartRefused (codes "default"))) → ⊥
+unfolding definition_said list_at number_of number_for with_names
+nothing_to_refuse h = let up = h.answers.3 in cc
 
 -- 6. An activation whose library context has closed is given back all the same.
 

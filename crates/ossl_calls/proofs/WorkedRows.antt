@@ -104,7 +104,7 @@ pub digest_exchanged : IsLegal one_box (fetch_1 ∷ entry 1 (FreeCtx 2) Done ∷
 unfolding definition_said list_at number_of number_for with_names
 digest_exchanged h = let unowned : false ≡ true = h.1.0.allowed.tokens in cc
 
--- nor with another number in its second entry, or in its first
+-- nor with another number in its second entry
 pub digest_renumbered : IsLegal one_box (fetch_1 ∷ entry 1 (NewCtx 1 None 0) (Made 3) ∷ []) → ⊥
 unfolding definition_said list_at number_of number_for with_names
 digest_renumbered h = apart 3 2 refl h.1.0.answers.1
@@ -139,7 +139,7 @@ pub wrong_instance : IsNext one_box [] (entry 1 fetch (fetched 1 2 0)) → ⊥
 unfolding definition_said list_at number_of number_for with_names
 wrong_instance h = let answers = h.answers.1 in apart 2 1 refl (cc)
 
--- a start cannot be refused while the instance is up
+-- a start cannot be refused once the fallback is used
 pub no_start_to_refuse : IsNext one_box (fetch_1 ∷ []) (entry 1 fetch (StartRefused (codes "default"))) → ⊥
 unfolding definition_said list_at number_of number_for with_names
 no_start_to_refuse h = let armed : false ≡ true = h.answers.1 in cc

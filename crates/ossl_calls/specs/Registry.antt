@@ -60,7 +60,7 @@ sheet_after fixed entries k = sheet_at (state_after fixed entries) (slice_index 
 abbrev pub HasSheets : Fixed → List Sheet → List (Entry Call Reply) → Type 0
 HasSheets fixed sheets entries = (k : ℕ) → k < length sheets → sheet_of sheets k ≡ sheet_after fixed entries k
 
--- the calls that are never refused memory: those that give something back
+-- the calls that are never refused memory: those that give something back, and the closing of a library context that is open
 abbrev pub takes_no_memory : State → Call → Bool
 takes_no_memory s (Load l name retain) = false
 takes_no_memory s (Unload t) = true

@@ -95,7 +95,7 @@ abbrev pub MayRefuse : State → ℕ → Option ℕ → Type 0
 MayRefuse s l None = ⊥
 MayRefuse s l (Some k) = up_in s l k ≡ []
 
--- 3. Activations that loads give. One belongs to the caller of its load until it is given back or its library context closes.
+-- 3. Activations that loads give. One keeps its provider active until it is given back or its library context closes.
 
 -- a load that does not retain the fallback switches an armed one off
 abbrev pub fallback_after_load : Bool → Fallback → Fallback
@@ -178,7 +178,7 @@ unloaded_of kept t lib = settled_of kept (returned_of t lib)
 abbrev pub with_unloaded : State → ℕ → ℕ → Option ℕ → State
 with_unloaded s l t kept = with_lib s l (unloaded_of kept t (lib_at s l))
 
--- None: the library context was closed, and the activation went with it
+-- None never comes where an unload is carried out: the activation went when its library context closed
 abbrev pub after_unload : List Facts → State → ℕ → Option ℕ → State
 after_unload facts s t None = s
 after_unload facts s t (Some l) = with_unloaded s l t (kept_of facts (lib_at s l))
@@ -279,7 +279,6 @@ Answers facts s c (Unload t) Done = IsTrue (is_some (holder_of s t))
 Answers facts s c (SetDefault l query) NoLib = IsFalse (lib_at s l).is_open
 Answers facts s c (SetDefault l query) Done = IsTrue (lib_at s l).is_open
 Answers facts s c (Fetch l op name query) NoLib = IsFalse (lib_at s l).is_open
-Answers facts s c (CloseLib l) NoLib = IsFalse (lib_at s l).is_open
 Answers facts s c (Fetch l op name query) (StartRefused p) =
     IsTrue (lib_at s l).is_open × IsTrue (is_armed (lib_at s l).fallback) × (p ≡ default_name) × MayRefuse s l (place_of default_name facts)
 Answers facts s c (Fetch l op name query) (Fetched n p i r code) =
@@ -291,6 +290,7 @@ Answers facts s c (Free h) Done = ⊤
 Answers facts s c (FreeCtx h) Done = ⊤
 Answers facts s c (NewCtx h inner len) NotAdmitted = IsFalse (admits facts len (element_of s h))
 Answers facts s c (NewCtx h inner len) (Made n) = IsTrue (admits facts len (element_of s h)) × (n ≡ s.next)
+Answers facts s c (CloseLib l) NoLib = IsFalse (lib_at s l).is_open
 Answers facts s c (CloseLib l) Done = IsTrue (lib_at s l).is_open
 -- no other pair of call and reply is a step
 Answers facts s c call reply = ⊥
@@ -306,7 +306,6 @@ left_by facts s c (Unload t) Done = after_unload facts s t (holder_of s t)
 left_by facts s c (SetDefault l query) NoLib = s
 left_by facts s c (SetDefault l query) Done = with_default s l query
 left_by facts s c (Fetch l op name query) NoLib = s
-left_by facts s c (CloseLib l) NoLib = s
 left_by facts s c (Fetch l op name query) (StartRefused p) = s
 left_by facts s c (Fetch l op name query) (Fetched n p i r code) = let f = after_fallback facts s l in with_method f c (best_method f l op name query)
 left_by facts s c (Fetch l op name query) Unsupported = after_fallback facts s l
@@ -315,6 +314,7 @@ left_by facts s c (Free h) Done = without_element s h
 left_by facts s c (FreeCtx h) Done = without_element s h
 left_by facts s c (NewCtx h inner len) NotAdmitted = s
 left_by facts s c (NewCtx h inner len) (Made n) = with_context s c inner (element_of s h)
+left_by facts s c (CloseLib l) NoLib = s
 left_by facts s c (CloseLib l) Done = with_closed s l
 -- no other pair of call and reply is a step
 left_by facts s c call reply = s

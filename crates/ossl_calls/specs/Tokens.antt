@@ -25,7 +25,7 @@ gains_by call reply t token = false
 abbrev pub gains : Entry Call Reply → ℕ → Token → Bool
 gains e t token = gains_by e.call e.reply t token
 
--- an entry gives this token back, whatever the reply
+-- an entry gives this token back, whatever the reply; in a legal history the kind follows from the number
 abbrev pub gives_up_by : Call → Reply → ℕ → Token → Bool
 gives_up_by (Unload u) reply t activation_token = nat_eq u t
 gives_up_by (Free h) reply t method_token = nat_eq h t

@@ -6,7 +6,7 @@ use ossl_property::{Definition, Query};
 /// Whether a library context still falls back to the provider `default` (provider(7)).
 #[derive(Debug, Clone, Copy, PartialEq, Eq)]
 pub enum Fallback {
-    /// The next fetch activates it.
+    /// The next fetch activates it, where the catalogue has it and its start is accepted.
     Armed,
     /// A provider was loaded in its place.
     Off,

@@ -28,7 +28,7 @@ use Rattle.ossl_script.specs.Lines.{is_skipped}
 use Rattle.ossl_script.proofs.HeldLaws.{goes_by_reply}
 use Rattle.ossl_run.specs.declared.turns.Turn.{Turn}
 use Rattle.ossl_run.specs.Batched.{Batch, replies_to}
-use Rattle.ossl_run.specs.Turns.{Drawn, IsInTurn, NeverFalls, OrderOfText, callers_in, drawn, lesser, lines_from, turn_at, turn_of, waiting}
+use Rattle.ossl_run.specs.Turns.{Drawn, IsInTurn, NeverFalls, OrderOfText, callers_in, drawn, lesser, lines_from, turn_at, turn_of, by_text}
 
 -- 1. The lines of a text have rising numbers.
 
@@ -218,7 +218,7 @@ module _ (batch : Batch) where
   never_falls : (past es : List (Entry Call Reply)) (n : ℕ) → Each (λ c. IsFrom n (place_at c past)) (callers_in batch) → IsInTurn batch [] past es → NeverFalls n (lines_from batch past es)
   never_falls past [] n from run = tt
   never_falls past (e ∷ es) n from (next, is, turn, later) =
-      let this = drawn-turn (waiting batch past) next is in
+      let this = drawn-turn (by_text batch past) next is in
       let found = is_least (λ c. IsFrom n (place_at c past)) (turn_at batch past) None (callers_in batch) next.turn from this.0 in
       let P : List ℕ → Type 0 = λ list. IsInTurn batch list (past ++ e ∷ []) es in
       let more = never_falls (past ++ e ∷ []) es next.turn.line (each-after next.turn.line n past e (callers_in batch) from found.others_above) (subst P this.1 later) in

@@ -1,6 +1,6 @@
 -- Worked runs as they are printed, by computation: what each call started and stopped, and the results.
 use Rattle.std.proofs.Common.{◌≡◌, ℕ, true, false, List, [], ◌∷◌, refl}
-use Rattle.std.specs.Prelude.{codes, None}
+use Rattle.std.specs.Prelude.{codes, None, Some}
 use Rattle.std.specs.Fmt.{digits}
 use Rattle.ossl_base.specs.declared.entry.Entry.{Entry}
 use Rattle.ossl_provider.specs.Sheet.{Facts}
@@ -16,6 +16,7 @@ use Rattle.ossl_calls.specs.declared.call.Call.TheVariants.{Load, Unload, Fetch,
 use Rattle.ossl_calls.specs.declared.call.Reply.{Reply}
 use Rattle.ossl_calls.specs.declared.call.Reply.TheVariants.{Loaded, Fetched, Made, Done, NoLib, StartRefused}
 use Rattle.ossl_calls.specs.History.{Fixed}
+use Rattle.ossl_calls.specs.Text.{call_text}
 use Rattle.ossl_run.specs.Printed.{lines_of, plainly, printed_batch}
 use Rattle.ossl_run.proofs.WorkedRuns.{batch_of, entry}
 
@@ -107,3 +108,21 @@ pub skipped_printed : printed_batch (record { facts = box (codes "A") (row (code
     ≡ codes "order 3\n1 1 load 0 A: ok 1 skipped 1; start A 1\n2 1 unload 1: ok; stop A 1\n3 0 closelib 0: ok\nresults 2\nline 1 ok skipped 1\nline 2 ok\n"
 unfolding definition_said list_at number_of number_for with_names digits
 skipped_printed = refl
+
+-- callers under other numbers in the history, and marked fetches: the mark stands before what is started
+pub marked_printed : printed_batch one_box (batch_of (codes "2 fetch 0 digest SHA2-256 M\n2 fetch 0 digest SHA2-256 N\n2 free M\n2 free N")) (9 ∷ 4 ∷ []) (Some (false ∷ true ∷ false ∷ false ∷ false ∷ [])) (
+    entry 4 fetch (Fetched 1 (codes "default") 1 0 Sha256)
+    ∷ entry 4 fetch (Fetched 2 (codes "default") 1 0 Sha256)
+    ∷ entry 4 (Free 1) Done
+    ∷ entry 4 (Free 2) Done
+    ∷ entry 0 (CloseLib 0) Done
+    ∷ []
+    )
+    ≡ codes "order 5\n1 2 fetch 0 digest SHA2-256 []: ok default 1 0 miss; start default 1\n2 2 fetch 0 digest SHA2-256 []: ok default 1 0 hit\n3 2 free 1: ok\n4 2 free 2: ok\n5 0 closelib 0: ok; stop default 1\nresults 4\nline 1 ok default\nline 2 ok default\nline 3 ok\nline 4 ok\n"
+unfolding definition_said query_said list_at number_of number_for with_names digits
+marked_printed = refl
+
+-- a call with an inner method, and its key's length
+pub inner_printed : call_text (NewCtx 2 (Some 3) 13) ≡ codes "newctx 2 3 13"
+unfolding digits
+inner_printed = refl

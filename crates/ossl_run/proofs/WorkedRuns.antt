@@ -25,8 +25,8 @@ use Rattle.ossl_run.specs.declared.error_line.ErrorLine.TheVariants as lines
 use Rattle.ossl_run.specs.Batched.{Batch}
 use Rattle.ossl_run.specs.ErrorLine.{error_status, error_text}
 use Rattle.ossl_run.specs.Opening.{IsEnded, IsOpened, closing_calls, opening_calls}
-use Rattle.ossl_run.specs.Printed.{batch_caller, mark_at, mark_text, printed_batch}
-use Rattle.ossl_run.specs.Turns.{IsInTurn, IsRunInOrder, lines_from}
+use Rattle.ossl_run.specs.Printed.{IsNumbering, batch_caller, mark_at, mark_text, printed_batch}
+use Rattle.ossl_run.specs.Turns.{IsInTurn, IsRefusedRun, IsRunInOrder, lines_from}
 
 -- 1. What the runs are written with.
 
@@ -71,7 +71,7 @@ two_boxes = record {
   opened = 0 ∷ 0 ∷ [];
 }
 
-pub loads_in_order : IsRunInOrder no_settings 1 loads [] loads_ended
+pub loads_in_order : IsRunInOrder no_settings loads [] loads_ended
 unfolding digits
 loads_in_order = record {
   opening = [];
@@ -111,6 +111,10 @@ unfolding digits
 loads_printed = refl
 
 -- 3. Callers under other numbers in the history, and marks of fetches.
+
+pub numbered_callers : IsNumbering loads (9 ∷ 4 ∷ [])
+unfolding digits
+numbered_callers = record { each = refl; distinct = refl; not_program = refl }
 
 pub second_caller : batch_caller (9 ∷ 4 ∷ []) 4 ≡ 2
 second_caller = refl
@@ -206,6 +210,48 @@ opened = record { caller = refl; calls = refl; loaded = refl }
 pub ended_early : IsEnded two_activations (entry 0 (Load 0 (codes "default") false) (Loaded 1 1 0) ∷ entry 0 (Load 0 (codes "legacy") false) NoProvider ∷ [])
 ended_early = record { caller = refl; calls = refl; loaded = refl; ended = refl }
 
+-- a batch whose one line makes no call, behind an opening
+pub opened_and_closed : IsRunInOrder two_activations (batch_of (codes "1 unload A")) [] (
+    entry 0 (Load 0 (codes "default") false) (Loaded 1 1 0)
+    ∷ entry 0 (Load 0 (codes "legacy") false) (Loaded 2 2 0)
+    ∷ entry 0 (SetDefault 0 []) Done
+    ∷ entry 0 (Unload 2) Done
+    ∷ entry 0 (Unload 1) Done
+    ∷ entry 0 (CloseLib 0) Done
+    ∷ []
+    )
+unfolding digits
+opened_and_closed = record {
+  opening = entry 0 (Load 0 (codes "default") false) (Loaded 1 1 0) ∷ entry 0 (Load 0 (codes "legacy") false) (Loaded 2 2 0) ∷ entry 0 (SetDefault 0 []) Done ∷ [];
+  turns = [];
+  returning = [];
+  closing = entry 0 (Unload 2) Done ∷ entry 0 (Unload 1) Done ∷ entry 0 (CloseLib 0) Done ∷ [];
+  parts = refl;
+  opened = record { caller = refl; calls = refl; loaded = refl };
+  in_turn = refl;
+  returned = refl;
+  closed = record { caller = refl; calls = refl };
+}
+
+-- the second load is refused: the first activation goes, each library context that the batch names closes, and no caller comes
+pub refused_run : IsRefusedRun two_activations (batch_of (codes "1 closelib 1")) (codes "legacy") (
+    entry 0 (Load 0 (codes "default") false) (Loaded 1 1 0)
+    ∷ entry 0 (Load 0 (codes "legacy") false) NoProvider
+    ∷ entry 0 (Unload 1) Done
+    ∷ entry 0 (CloseLib 0) Done
+    ∷ entry 0 (CloseLib 1) Done
+    ∷ []
+    )
+unfolding digits
+refused_run = record {
+  opening = entry 0 (Load 0 (codes "default") false) (Loaded 1 1 0) ∷ entry 0 (Load 0 (codes "legacy") false) NoProvider ∷ [];
+  closing = entry 0 (Unload 1) Done ∷ entry 0 (CloseLib 0) Done ∷ entry 0 (CloseLib 1) Done ∷ [];
+  parts = refl;
+  ended = record { caller = refl; calls = refl; loaded = refl; ended = refl };
+  named = refl;
+  closed = record { caller = refl; calls = refl };
+}
+
 -- the newest activation goes first, and the library contexts close from 0 up
 pub closes : closing_calls 2 (1 ∷ 2 ∷ []) ≡ Unload 2 ∷ Unload 1 ∷ CloseLib 0 ∷ CloseLib 1 ∷ []
 closes = refl
@@ -228,6 +274,9 @@ provider_line = refl
 pub configuration_line : error_text (lines.Configuration (refusals.NoVariable 1 (codes "nosuch"))) ≡ codes "error configuration line 1 variable nosuch\n"
 unfolding digits
 configuration_line = refl
+
+pub no_memory_status : error_status (lines.Configuration refusals.NoMemory) ≡ 9
+no_memory_status = refl
 
 pub configuration_status : error_status (lines.Configuration (refusals.Line 3 Equals)) ≡ 5
 configuration_status = refl

@@ -1,4 +1,4 @@
--- A batch at a run: its lines, what its files hold, and what each caller does after the entries so far.
+-- A batch at a run: its lines, what its files hold, and what each caller does after its replies so far.
 use Rattle.std.specs.Prelude.{ℕ, List}
 use Rattle.ossl_base.specs.declared.entry.Entry.{Entry}
 use Rattle.ossl_calls.specs.declared.call.Call.{Call}

@@ -1,6 +1,7 @@
 -- The error lines, with the statuses at which they are written.
 use Rattle.std.specs.Prelude.{ℕ, List, ◌++◌, codes}
 use Rattle.std.specs.Fmt.{decimal}
+use Rattle.ossl_conf.specs.declared.refusal.ConfRefused.TheVariants.{NoMemory}
 use Rattle.ossl_conf.specs.Refused.{refusal_text, shown}
 use Rattle.ossl_script.specs.Kind.{kind_word}
 use Rattle.ossl_script.specs.Limit.{limit_word}
@@ -10,6 +11,8 @@ use Rattle.ossl_run.specs.declared.error_line.ErrorLine.TheVariants.{Usage, Read
 abbrev pub error_status : ErrorLine → ℕ
 error_status Usage = 2
 error_status Read = 3
+-- want of memory has no line, and a status of its own
+error_status (Configuration NoMemory) = 9
 error_status (Configuration refusal) = 5
 error_status (Batch number kind) = 6
 error_status (Limit limit) = 7

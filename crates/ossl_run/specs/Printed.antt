@@ -1,8 +1,9 @@
 -- The printed run: the order of all calls with what each started and stopped, and the results.
-use Rattle.std.specs.Prelude.{ℕ, ◌+◌, ◌-◌, Bool, true, false, nat_eq, Option, Some, None, option_map, option_and_then, unwrap_or, List, [], ◌∷◌, ◌++◌, codes, find, length, map, position, slice_get, slice_index_or, if◌then◌else◌}
+use Rattle.std.specs.Prelude.{ℕ, ◌+◌, ◌-◌, ◌≡◌, IsTrue, IsFalse, Bool, true, false, nat_eq, Option, Some, None, option_map, option_and_then, unwrap_or, List, [], ◌∷◌, ◌++◌, codes, find, length, map, position, slice_get, slice_index_or, if◌then◌else◌}
 use Rattle.std.specs.List.{flat_map, list_any}
 use Rattle.std.specs.Fmt.{decimal}
 use Rattle.ossl_base.specs.declared.entry.Entry.{Entry}
+use Rattle.ossl_provider.specs.Members.{is_distinct, is_in}
 use Rattle.ossl_provider.specs.Sheet.{Facts}
 use Rattle.ossl_calls.specs.declared.call.Call.{Call}
 use Rattle.ossl_calls.specs.declared.call.Reply.{Reply}
@@ -16,6 +17,7 @@ use Rattle.ossl_calls.specs.Text.{entry_text}
 use Rattle.ossl_calls.specs.Tokens.{entries_of}
 use Rattle.ossl_run.specs.declared.line.Line.{Line}
 use Rattle.ossl_script.specs.declared.caller.LineResult.{LineResult}
+use Rattle.ossl_script.specs.Counts.{callers_of}
 use Rattle.ossl_run.specs.Batched.{Batch, replies_to, results_of}
 use Rattle.ossl_run.specs.Ordered.{replies_of}
 use Rattle.ossl_run.specs.Script.{result_text}
@@ -53,9 +55,15 @@ plainly = record { caller = λ number. number; mark = λ number. None }
 abbrev pub batch_caller : List ℕ → ℕ → ℕ
 batch_caller callers number = unwrap_or (option_map (λ i. i + 1) (position (λ other. nat_eq other number) callers)) 0
 
--- the number under which a caller of the batch stands in the history
-abbrev pub number_of : List ℕ → ℕ → ℕ
-number_of callers caller = slice_index_or callers (caller - 1) 0
+-- the number under which a caller of the batch, counted from 1, stands in the history
+abbrev pub history_number : List ℕ → ℕ → ℕ
+history_number callers caller = slice_index_or callers (caller - 1) 0
+
+-- the callers of a batch stand under these numbers: one each, distinct, and none is that of the program
+pub record IsNumbering (batch : Batch) (callers : List ℕ) : Type 0 where
+  pub each : length callers ≡ callers_of batch.lines
+  pub distinct : IsTrue (is_distinct callers)
+  pub not_program : IsFalse (is_in 0 callers)
 
 -- the mark of an entry, counted from 1, where there are marks
 abbrev pub mark_at : Option (List Bool) → ℕ → Option Bool
@@ -102,7 +110,7 @@ results_text results = codes "results " ++ decimal (length results) ++ codes "\n
 abbrev pub output_text : ℕ → List ℕ → List LineResult → List ℕ
 output_text count lines results = codes "order " ++ decimal count ++ codes "\n" ++ lines ++ results_text results
 
--- the result of a line, among those of its caller; where it has none yet, nothing is said of it
+-- the result of a line, among those of its caller; a line that has none yet has an empty one
 abbrev pub result_among : List LineResult → ℕ → LineResult
 result_among results number = unwrap_or (find (λ result. nat_eq result.line number) results) (record { line = number; text = [] })
 
@@ -114,7 +122,7 @@ batch_results batch replies = map (λ line. result_among (results_of batch line.
 abbrev pub printed_batch : Fixed → Batch → List ℕ → Option (List Bool) → List (Entry Call Reply) → List ℕ
 printed_batch fixed batch callers marks entries =
     output_text (length entries) (lines_of (showing_of callers marks) fixed entries)
-    (batch_results batch (λ caller. replies_to (number_of callers caller) entries))
+    (batch_results batch (λ caller. replies_to (history_number callers caller) entries))
 
 -- the result of the one line
 abbrev pub only_result : List ℕ → List LineResult

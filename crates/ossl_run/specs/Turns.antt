@@ -1,5 +1,5 @@
 -- The order of a run: whose turn it is after the entries so far, by a list of callers, and behind the list by the order of the text.
-use Rattle.std.specs.Prelude.{ℕ, ◌≡◌, ◌≤◌, ⊤, nat_lt, Ok, Option, Some, None, option_map, List, [], ◌∷◌, ◌++◌, filter_map, fold, map, if◌then◌else◌}
+use Rattle.std.specs.Prelude.{ℕ, ◌-◌, ◌≡◌, ◌≤◌, ⊤, nat_lt, Ok, Option, Some, None, option_map, List, [], ◌∷◌, ◌++◌, filter_map, fold, length, map, slice_index_or, if◌then◌else◌}
 use Rattle.std.specs.List.{flat_map, range_with_len}
 use Rattle.std.specs.Option.{option_or}
 use Rattle.ossl_base.specs.declared.entry.Entry.{Entry}
@@ -8,11 +8,11 @@ use Rattle.ossl_calls.specs.declared.call.Reply.{Reply}
 use Rattle.ossl_conf.specs.View.{SettingsView}
 use Rattle.ossl_script.specs.declared.caller.Next.{Next}
 use Rattle.ossl_script.specs.declared.caller.Next.TheVariants as nexts
-use Rattle.ossl_script.specs.Counts.{callers_of}
+use Rattle.ossl_script.specs.Counts.{callers_of, contexts_of}
 use Rattle.ossl_script.specs.Judging.{commands_of}
 use Rattle.ossl_run.specs.declared.turns.Turn.{Turn}
 use Rattle.ossl_run.specs.Batched.{Batch, giving_back_of, next_of, replies_to}
-use Rattle.ossl_run.specs.Opening.{IsClosed, IsOpened}
+use Rattle.ossl_run.specs.Opening.{IsClosed, IsEnded, IsOpened}
 
 -- the turn of a caller that has a call left of a line
 abbrev pub turn_of : ℕ → Next → Option Turn
@@ -50,12 +50,12 @@ listed batch past [] = None
 listed batch past (caller ∷ list) = option_or (drawn list (turn_at batch past caller)) (listed batch past list)
 
 -- behind the list the caller whose next call has the least line
-abbrev pub waiting : Batch → List (Entry Call Reply) → Option Turn
-waiting batch past = least (filter_map (turn_at batch past) (callers_in batch))
+abbrev pub by_text : Batch → List (Entry Call Reply) → Option Turn
+by_text batch past = least (filter_map (turn_at batch past) (callers_in batch))
 
 -- whose turn it is; none where no line has a call left
 abbrev pub next_turn : Batch → List (Entry Call Reply) → List ℕ → Option Drawn
-next_turn batch past list = option_or (listed batch past list) (drawn [] (waiting batch past))
+next_turn batch past list = option_or (listed batch past list) (drawn [] (by_text batch past))
 
 -- an entry is a turn: the next call of its caller, of that line
 pub record IsTurn (batch : Batch) (past : List (Entry Call Reply)) (turn : Turn) (e : Entry Call Reply) : Type 0 where
@@ -77,7 +77,7 @@ abbrev pub returning_calls : Batch → List (Entry Call Reply) → List (ℕ × 
 returning_calls batch past = flat_map (λ caller. map (by_caller caller) (giving_back_of batch caller (replies_to caller past))) (callers_in batch)
 
 -- a finished run in the order of a list: the opening, the lines in turn, what callers give back, and the closing
-pub record IsRunInOrder (settings : SettingsView) (contexts : ℕ) (batch : Batch) (list : List ℕ) (entries : List (Entry Call Reply)) : Type 0 where
+pub record IsRunInOrder (settings : SettingsView) (batch : Batch) (list : List ℕ) (entries : List (Entry Call Reply)) : Type 0 where
   pub opening : List (Entry Call Reply)
   pub turns : List (Entry Call Reply)
   pub returning : List (Entry Call Reply)
@@ -86,7 +86,16 @@ pub record IsRunInOrder (settings : SettingsView) (contexts : ℕ) (batch : Batc
   pub opened : IsOpened settings opening
   pub in_turn : IsInTurn batch list [] turns
   pub returned : map (λ e. by_caller e.caller e.call) returning ≡ returning_calls batch turns
-  pub closed : IsClosed contexts opening closing
+  pub closed : IsClosed (contexts_of batch.lines) opening closing
+
+-- a run that a refused load of this provider ends before it begins: the opening up to that load, and the closing
+pub record IsRefusedRun (settings : SettingsView) (batch : Batch) (name : List ℕ) (entries : List (Entry Call Reply)) : Type 0 where
+  pub opening : List (Entry Call Reply)
+  pub closing : List (Entry Call Reply)
+  pub parts : entries ≡ opening ++ closing
+  pub ended : IsEnded settings opening
+  pub named : name ≡ slice_index_or settings.activations (length opening - 1) []
+  pub closed : IsClosed (contexts_of batch.lines) opening closing
 
 -- the number of the line of a call that comes next
 abbrev pub line_in : Next → List ℕ
@@ -103,7 +112,8 @@ abbrev pub NeverFalls : ℕ → List ℕ → Type 0
 NeverFalls least [] = ⊤
 NeverFalls least (number ∷ numbers) = (least ≤ number) × NeverFalls number numbers
 
--- without a list the lines run one after the other, in the order of the text
+-- without a list the lines run one after the other, in the order of the text: the line of an entry is never less than that of the
+-- one before it, and each line is of one caller
 abbrev pub OrderOfText : Type 0
 OrderOfText = (text : List ℕ) (batch : Batch) (entries : List (Entry Call Reply))
     → commands_of text ≡ Ok batch.lines

@@ -16,7 +16,7 @@ pub enum ErrorLine {
     Usage,
     /// The input or a file could not be read.
     Read,
-    /// The configuration is refused; want of memory has no line.
+    /// The configuration is refused; want of memory has no line, and the status 9.
     Configuration(ConfRefused),
     /// The first faulty line of the batch, counted from 1, and its kind.
     Batch { number: u64, kind: LineKind },
@@ -34,6 +34,7 @@ impl ErrorLine {
         match self {
             ErrorLine::Usage => 2,
             ErrorLine::Read => 3,
+            ErrorLine::Configuration(ConfRefused::NoMemory) => 9,
             ErrorLine::Configuration(_) => 5,
             ErrorLine::Batch { .. } => 6,
             ErrorLine::Limit(_) => 7,

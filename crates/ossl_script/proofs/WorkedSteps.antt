@@ -1,14 +1,20 @@
 -- Worked callers by computation: commands that make one call each.
-use Rattle.std.proofs.Common.{ℕ, true, false, List, [], ◌∷◌, refl}
-use Rattle.std.specs.Prelude.{codes, None}
+use Rattle.std.proofs.Common.{◌≡◌, ℕ, true, false, List, [], ◌∷◌, refl}
+use Rattle.std.specs.Prelude.{codes, None, Some, Ok, Err}
 use Rattle.std.specs.Fmt.{digits}
 use Rattle.hex.specs.Hex.{decode_pairs}
-use Rattle.ossl_codes.specs.declared.code.Code.TheVariants.{Sha256}
+use Rattle.ossl_codes.specs.declared.code.Code.TheVariants.{Hmac, Sha256}
+use Rattle.ossl_codes.specs.declared.param.Param.TheVariants.{Inner, Len}
+use Rattle.ossl_op.specs.FinishRefused.TheVariants as finishes_with
+use Rattle.ossl_op.specs.declared.params.BeginRefused.TheVariants as begins
 use Rattle.ossl_codes.specs.declared.code.Operation.TheVariants as operations
 use Rattle.ossl_property.specs.Reading.{list_at}
 use Rattle.ossl_property.specs.Said.{query_said}
 use Rattle.ossl_calls.specs.declared.call.Call.TheVariants.{Load, Unload, Fetch, NewCtx, Free, FreeCtx, CloseLib, UpRef}
-use Rattle.ossl_calls.specs.declared.call.Reply.TheVariants.{Loaded, Fetched, Made, Done, NoLib, NoProvider, StartRefused}
+use Rattle.ossl_calls.specs.declared.call.Reply.TheVariants.{Loaded, Fetched, Made, Done, NoLib, NoProvider, NotAdmitted, StartRefused}
+use Rattle.ossl_script.specs.declared.outcome.Outcome.TheVariants as outcomes
+use Rattle.ossl_script.specs.Caller.{line_result}
+use Rattle.ossl_script.specs.Outcome.{finished_outcome}
 use Rattle.ossl_script.proofs.Runs.{DoesAll, asks, ends, line, finishes, performs, plain}
 
 -- two callers load and unload
@@ -173,3 +179,44 @@ pub from_the_left : DoesAll (codes "1 fetch 0 digest MD5 M\n1 open M M inner=N\n
     ) (Free 1 ∷ [])
 unfolding query_said list_at digits
 from_the_left = refl
+
+-- an operation context on a method and an inner one, with the key's length; the key is too short for the box
+abbrev on_inner : List ℕ
+on_inner = codes "1 fetch 0 mac HMAC M\n1 fetch 0 digest SHA2-256 D\n1 open M X inner=D key=hex:0000\n1 open M Y inner=D"
+
+pub opened_on_inner : DoesAll on_inner [] 1 (Fetched 1 (codes "fips") 1 22 Hmac ∷ Fetched 2 (codes "fips") 1 0 Sha256 ∷ NotAdmitted ∷ []) (
+    asks 1 (Fetch 0 operations.Mac (codes "HMAC") [])
+    ∷ asks 2 (Fetch 0 operations.Digest (codes "SHA2-256") [])
+    ∷ asks 3 (NewCtx 1 (Some 2) 2)
+    ∷ ends
+    ∷ []
+    ) (
+    line 1 (codes "ok fips")
+    ∷ line 2 (codes "ok fips")
+    ∷ line 3 (codes "error not admitted")
+    ∷ line 4 (codes "error missing key")
+    ∷ []
+    ) (Free 2 ∷ Free 1 ∷ [])
+unfolding decode_pairs query_said list_at digits
+opened_on_inner = refl
+
+-- what is printed of bytes, and of refusals that no worked caller meets
+pub bytes_printed : line_result 8 (finished_outcome (Ok (0 ∷ 255 ∷ []))) ≡ line 8 (codes "ok 00ff")
+bytes_printed = refl
+
+pub no_bytes_printed : line_result 8 (finished_outcome (Ok [])) ≡ line 8 (codes "ok")
+no_bytes_printed = refl
+
+pub iv_length_printed : line_result 1 (outcomes.NotBegun (begins.IvLength 15)) ≡ line 1 (codes "error iv length 15")
+unfolding digits
+iv_length_printed = refl
+
+pub missing_printed : line_result 1 (outcomes.NotBegun (begins.MissingParam Inner)) ≡ line 1 (codes "error missing inner")
+missing_printed = refl
+
+pub length_printed : line_result 1 (outcomes.NotBegun (begins.MissingParam Len)) ≡ line 1 (codes "error missing len")
+length_printed = refl
+
+pub stream_end_printed : line_result 1 (finished_outcome (Err (finishes_with.StreamEnd 1))) ≡ line 1 (codes "error stream end 1")
+unfolding digits
+stream_end_printed = refl

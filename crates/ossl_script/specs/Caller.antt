@@ -86,7 +86,7 @@ abbrev pub call_in : Next → Option Call
 call_in (nexts.Call line call) = Some call
 call_in nexts.End = None
 
--- after these replies the entries are, one by one, the caller's next calls
+-- after these replies the calls of the entries are, one by one, the caller's next calls, under whatever number it stands in the history
 abbrev pub Follows : List Line → List (List ℕ) → ℕ → List Reply → List (Entry Call Reply) → Type 0
 Follows lines contents caller replies [] = ⊤
 Follows lines contents caller replies (e ∷ es) = (call_in (next_call lines contents caller replies) ≡ Some e.call) × Follows lines contents caller (replies ++ e.reply ∷ []) es

@@ -1,4 +1,4 @@
--- The course of each command: its query text is read first, then the names that it uses, from the left, then the name that it binds, and then its call is made.
+-- The course of each command: its query text is read first, then the names that it uses, from the left, then the name that it binds, and then the rest: an operation begins, and calls are made.
 use Rattle.std.specs.Prelude.{ℕ, Option, List, [], ◌++◌}
 use Rattle.ossl_codes.specs.declared.code.Code.{Code}
 use Rattle.ossl_op.specs.Standard.{standard_result}

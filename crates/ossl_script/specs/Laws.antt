@@ -44,12 +44,12 @@ abbrev pub least_behind : ℕ → Option Held → ℕ
 least_behind least None = least
 least_behind least (Some token) = token.number + 1
 
--- each of these entries that hands out a token hands out a greater number than those before it, as entries of a history do
+-- each of these entries that hands out a token hands out a greater number than those before it, the first at least this one, as entries of a history do
 abbrev pub Rises : ℕ → List (Entry Call Reply) → Type 0
 Rises least [] = ⊤
 Rises least (e ∷ es) = IsFrom least (handed_out e.call e.reply) × Rises (least_behind least (handed_out e.call e.reply)) es
 
--- each call that comes next names tokens that the caller owns, each of the kind that the call takes
+-- where tokens are handed out by rising numbers, each call that comes next names tokens that the caller owns, each of the kind that the call takes
 abbrev pub CallsAreOwned : Type 0
 CallsAreOwned = (lines : List Line) (contents : List (List ℕ)) (caller : ℕ) (made : List (Entry Call Reply)) (line : ℕ) (call : Call)
     → Follows lines contents caller [] made
@@ -64,7 +64,7 @@ CallsNameContexts = (lines : List Line) (contents : List (List ℕ)) (caller : �
     → next_call lines contents caller replies ≡ nexts.Call line call
     → names_context contexts call ≡ true
 
--- each call that gives back names a token that is owned after those before it, whatever the replies to these
+-- where tokens are handed out by rising numbers, each call that gives back names a token that is owned after those before it, whatever the replies to these
 abbrev pub GivingBackIsOwned : Type 0
 GivingBackIsOwned = (lines : List Line) (contents : List (List ℕ)) (caller : ℕ) (made given : List (Entry Call Reply)) (call : Call) (more : List Call)
     → Follows lines contents caller [] made
@@ -110,7 +110,7 @@ abbrev pub renamed_next : (ℕ → ℕ) → Next → Next
 renamed_next tokens (nexts.Call line call) = nexts.Call line (renamed tokens call)
 renamed_next tokens nexts.End = nexts.End
 
--- with other numbers in the replies a caller's results are the same, and its calls name its tokens by these
+-- with other numbers in the replies a caller's results are the same, and its next call names its tokens by these
 abbrev pub ResultsNameNoToken : Type 0
 ResultsNameNoToken = (lines : List Line) (contents : List (List ℕ)) (caller : ℕ) (replies : List Reply) (tokens instances : ℕ → ℕ)
     → let others = map (renumbered tokens instances) replies in
