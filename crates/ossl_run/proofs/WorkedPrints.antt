@@ -2,7 +2,6 @@
 use Rattle.std.proofs.Common.{◌≡◌, ℕ, true, false, List, [], ◌∷◌, refl}
 use Rattle.std.specs.Prelude.{codes, None, Some}
 use Rattle.std.specs.Fmt.{digits}
-use Rattle.ossl_base.specs.declared.entry.Entry.{Entry}
 use Rattle.ossl_provider.specs.Sheet.{Facts}
 use Rattle.ossl_provider.specs.declared.table.TableRow.{TableRow}
 use Rattle.ossl_codes.specs.declared.code.Code.TheVariants.{Sha256}
@@ -13,7 +12,6 @@ use Rattle.ossl_property.specs.Reading.{list_at}
 use Rattle.ossl_property.specs.Said.{definition_said, query_said}
 use Rattle.ossl_calls.specs.declared.call.Call.{Call}
 use Rattle.ossl_calls.specs.declared.call.Call.TheVariants.{Load, Unload, Fetch, Free, NewCtx, FreeCtx, CloseLib}
-use Rattle.ossl_calls.specs.declared.call.Reply.{Reply}
 use Rattle.ossl_calls.specs.declared.call.Reply.TheVariants.{Loaded, Fetched, Made, Done, NoLib, StartRefused}
 use Rattle.ossl_calls.specs.History.{Fixed}
 use Rattle.ossl_calls.specs.Text.{call_text}

@@ -2,7 +2,7 @@
 use Rattle.std.proofs.Common.{◌≡◌, ℕ, true, false, List, [], ◌∷◌, refl}
 use Rattle.std.specs.Prelude.{codes, None, Some, Ok, Err}
 use Rattle.std.specs.Fmt.{digits}
-use Rattle.hex.specs.Hex.{decode_pairs}
+use Rattle.hex.specs.Hex.{decode_pairs, encode_with}
 use Rattle.ossl_codes.specs.declared.code.Code.TheVariants.{Hmac, Sha256}
 use Rattle.ossl_codes.specs.declared.param.Param.TheVariants.{Inner, Len}
 use Rattle.ossl_op.specs.FinishRefused.TheVariants as finishes_with
@@ -202,6 +202,7 @@ opened_on_inner = refl
 
 -- what is printed of bytes, and of refusals that no worked caller meets
 pub bytes_printed : line_result 8 (finished_outcome (Ok (0 ∷ 255 ∷ []))) ≡ line 8 (codes "ok 00ff")
+unfolding encode_with
 bytes_printed = refl
 
 pub no_bytes_printed : line_result 8 (finished_outcome (Ok [])) ≡ line 8 (codes "ok")
