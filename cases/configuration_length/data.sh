@@ -1,0 +1,1 @@
+{ printf 'x = '; head -c 65536 /dev/zero | tr '\0' a; } > openssl.cnf

@@ -1,0 +1,1 @@
+head -c 4194305 /dev/zero > zeros
