@@ -1,6 +1,7 @@
 -- Lemmas that several proofs share.
 pub mod PrintedLaws
 pub mod TurnLaws
+pub mod DoneLaws
 pub mod WorkedRuns
 pub mod WorkedPrints
 pub mod LineLaws

@@ -101,7 +101,7 @@ IsAbove n None = ⊤
 IsAbove n (Some turn) = n ≤ turn.line
 
 -- each of these numbers has a property
-abbrev Each : (ℕ → Type 0) → List ℕ → Type 0
+abbrev pub Each : (ℕ → Type 0) → List ℕ → Type 0
 Each P [] = ⊤
 Each P (c ∷ cs) = P c × Each P cs
 
@@ -160,7 +160,7 @@ is_least Q f first (c ∷ cs) turn each is = of (λ first is. is_least Q f first
 
 -- 4. One turn after the other.
 
-replies-push : (c : ℕ) (past : List (Entry Call Reply)) (e : Entry Call Reply) → replies_to c (past ++ e ∷ []) ≡ (if nat_eq e.caller c then replies_to c past ++ e.reply ∷ [] else replies_to c past)
+pub replies-push : (c : ℕ) (past : List (Entry Call Reply)) (e : Entry Call Reply) → replies_to c (past ++ e ∷ []) ≡ (if nat_eq e.caller c then replies_to c past ++ e.reply ∷ [] else replies_to c past)
 replies-push c past e = rw (filter-append (λ (x : Entry Call Reply). nat_eq x.caller c) past (e ∷ [])) (elim (cases_Bool (nat_eq e.caller c)) [
   | inl mine ↦ rw mine (map-append (λ (x : Entry Call Reply). x.reply) (filter (λ (x : Entry Call Reply). nat_eq x.caller c) past) (e ∷ []))
   | inr other ↦ rw (other, append-nil) refl

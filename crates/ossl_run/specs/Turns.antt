@@ -1,18 +1,21 @@
 -- The order of a run: whose turn it is after the entries so far, by a list of callers, and behind the list by the order of the text.
-use Rattle.std.specs.Prelude.{ℕ, ◌-◌, ◌≡◌, ◌≤◌, ⊤, nat_lt, Ok, Option, Some, None, option_map, List, [], ◌∷◌, ◌++◌, filter_map, fold, length, map, slice_index_or, if◌then◌else◌}
+use Rattle.std.specs.Prelude.{ℕ, ◌-◌, ◌≡◌, ◌<◌, ◌≤◌, ⊤, nat_lt, Ok, Option, Some, None, option_map, List, [], ◌∷◌, ◌++◌, filter_map, fold, length, map, slice_index_or, if◌then◌else◌}
 use Rattle.std.specs.List.{flat_map, range_with_len}
 use Rattle.std.specs.Option.{option_or}
 use Rattle.ossl_base.specs.declared.entry.Entry.{Entry}
 use Rattle.ossl_calls.specs.declared.call.Call.{Call}
 use Rattle.ossl_calls.specs.declared.call.Reply.{Reply}
+use Rattle.ossl_calls.specs.Tokens.{entries_of}
 use Rattle.ossl_conf.specs.View.{SettingsView}
 use Rattle.ossl_script.specs.declared.caller.Next.{Next}
 use Rattle.ossl_script.specs.declared.caller.Next.TheVariants as nexts
+use Rattle.ossl_script.specs.Caller.{Follows}
 use Rattle.ossl_script.specs.Counts.{callers_of, contexts_of}
 use Rattle.ossl_script.specs.Judging.{commands_of}
 use Rattle.ossl_run.specs.declared.turns.Turn.{Turn}
 use Rattle.ossl_run.specs.Batched.{Batch, giving_back_of, next_of, replies_to}
 use Rattle.ossl_run.specs.Opening.{IsClosed, IsEnded, IsOpened}
+use Rattle.ossl_run.specs.Ordered.{replies_of}
 
 -- the turn of a caller that has a call left of a line
 abbrev pub turn_of : ℕ → Next → Option Turn
@@ -119,3 +122,20 @@ OrderOfText = (text : List ℕ) (batch : Batch) (entries : List (Entry Call Repl
     → commands_of text ≡ Ok batch.lines
     → IsInTurn batch [] [] entries
     → NeverFalls 0 (lines_from batch [] entries)
+
+-- all entries of a caller in a finished run: the calls that come next, one by one, to the end of its lines, and then those that give back
+pub record IsDone (batch : Batch) (caller : ℕ) (entries : List (Entry Call Reply)) : Type 0 where
+  pub made : List (Entry Call Reply)
+  pub given : List (Entry Call Reply)
+  pub parts : entries ≡ made ++ given
+  pub follows : Follows batch.lines batch.contents caller [] made
+  pub ended : next_of batch caller (replies_of made) ≡ nexts.End
+  pub returned : map (λ e. e.call) given ≡ giving_back_of batch caller (replies_of made)
+
+-- whatever the list, a run holds each caller's calls once and in its order, and no others but the program's
+abbrev pub EachCallerIsDone : Type 0
+EachCallerIsDone = (settings : SettingsView) (batch : Batch) (list : List ℕ) (entries : List (Entry Call Reply)) (caller : ℕ)
+    → IsRunInOrder settings batch list entries
+    → 0 < caller
+    → (caller ≤ callers_of batch.lines → IsDone batch caller (entries_of caller entries))
+    × (callers_of batch.lines < caller → entries_of caller entries ≡ [])
