@@ -2,6 +2,7 @@
 pub mod PrintedLaws
 pub mod TurnLaws
 pub mod DoneLaws
+pub mod FixedLaws
 pub mod WorkedRuns
 pub mod WorkedPrints
 pub mod LineLaws

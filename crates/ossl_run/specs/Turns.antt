@@ -1,10 +1,12 @@
 -- The order of a run: whose turn it is after the entries so far, by a list of callers, and behind the list by the order of the text.
-use Rattle.std.specs.Prelude.{ℕ, ◌-◌, ◌≡◌, ◌<◌, ◌≤◌, ⊤, nat_lt, Ok, Option, Some, None, option_map, List, [], ◌∷◌, ◌++◌, filter_map, fold, length, map, slice_index_or, if◌then◌else◌}
+use Rattle.std.specs.Prelude.{ℕ, ◌-◌, ◌≡◌, ◌<◌, ◌≤◌, ⊤, Bool, true, false, nat_lt, Ok, Option, Some, None, option_map, List, [], ◌∷◌, ◌++◌, filter_map, fold, length, map, slice_index_or, if◌then◌else◌}
 use Rattle.std.specs.List.{flat_map, range_with_len}
 use Rattle.std.specs.Option.{option_or}
 use Rattle.ossl_base.specs.declared.entry.Entry.{Entry}
 use Rattle.ossl_calls.specs.declared.call.Call.{Call}
 use Rattle.ossl_calls.specs.declared.call.Reply.{Reply}
+use Rattle.ossl_calls.specs.declared.call.Reply.TheVariants.{StartRefused}
+use Rattle.ossl_calls.specs.History.{Fixed, IsLegal}
 use Rattle.ossl_calls.specs.Tokens.{entries_of}
 use Rattle.ossl_conf.specs.View.{SettingsView}
 use Rattle.ossl_script.specs.declared.caller.Next.{Next}
@@ -139,3 +141,22 @@ EachCallerIsDone = (settings : SettingsView) (batch : Batch) (list : List ℕ) (
     → 0 < caller
     → (caller ≤ callers_of batch.lines → IsDone batch caller (entries_of caller entries))
     × (callers_of batch.lines < caller → entries_of caller entries ≡ [])
+
+-- a reply says that a start was refused: the one choice that neither the batch nor the registry makes
+abbrev pub is_refused_start : Reply → Bool
+is_refused_start (StartRefused provider) = true
+is_refused_start reply = false
+
+-- which starts were refused, entry by entry
+abbrev pub refused_starts : List (Entry Call Reply) → List Bool
+refused_starts entries = map (λ e. is_refused_start e.reply) entries
+
+-- over the same boxes and library contexts, with the same starts refused, there is only one finished run in the order of a list
+abbrev pub RunIsFixed : Type 0
+RunIsFixed = (settings : SettingsView) (batch : Batch) (list : List ℕ) (fixed : Fixed) (entries others : List (Entry Call Reply))
+    → IsRunInOrder settings batch list entries
+    → IsLegal fixed entries
+    → IsRunInOrder settings batch list others
+    → IsLegal fixed others
+    → refused_starts others ≡ refused_starts entries
+    → others ≡ entries
