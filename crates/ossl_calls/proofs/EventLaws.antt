@@ -38,10 +38,6 @@ count_by-push p [] x = grind (arith, common_steps)
 count_by-push p (y ∷ xs) x = grind (arith, common_steps, count_by-push p xs x)
 
 module _ (fixed : Fixed) (sheets : List Sheet) (state : State) (entries : List (Entry Call Reply)) (e : Entry Call Reply) (h : IsKept fixed sheets state entries) (next : IsNext fixed entries e) where
-  -- one more entry, whose state and sheets are known
-  abbrev Kept-after : List Sheet → State → Type 0
-  Kept-after sheets' left = IsKept fixed sheets' (with_next left) (entries ++ e ∷ [])
-
   old : (k : ℕ) → k < length sheets → sheet_of sheets k ≡ sheet_at state (slice_index fixed.opened k) (refusals (facts_at fixed.facts k).name entries) k
   old k below = rw h.is_after (h.agree k below)
 

@@ -14,7 +14,7 @@ use Rattle.ossl_calls.specs.declared.state.Kind.TheVariants.{Method, Context}
 use Rattle.ossl_calls.specs.declared.state.LibCtx.{LibCtx}
 use Rattle.ossl_calls.specs.declared.state.Live.{Live}
 use Rattle.ossl_calls.specs.declared.state.State.{State}
-use Rattle.ossl_calls.specs.History.{Fixed}
+use Rattle.ossl_calls.specs.History.{Fixed, IsLegal, state_after}
 use Rattle.ossl_calls.specs.State.{lib_at, is_of_box, up_instances}
 use Rattle.ossl_calls.specs.Step.{is_owned_by}
 use Rattle.ossl_calls.specs.Tokens.{Token, activation_token, method_token, context_token, entries_of, owns}
@@ -107,6 +107,10 @@ pub record IsSound (fixed : Fixed) (s : State) (entries : List (Entry Call Reply
   pub activations : HasSoundActivations s.next (lent_after entries)
   -- a token that is owned is live
   pub owned : (c t : ℕ) (token : Token) → IsTrue (owns (entries_of c entries) t token) → IsTrue (is_live s.live (lent_after entries) c t token)
+
+-- every legal history leaves a sound state
+abbrev pub LegalIsSound : Type 0
+LegalIsSound = (fixed : Fixed) (entries : List (Entry Call Reply)) → IsLegal fixed entries → IsSound fixed (state_after fixed entries) entries
 
 -- how many library contexts are open
 abbrev pub open_count : List LibCtx → ℕ

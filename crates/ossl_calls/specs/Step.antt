@@ -183,10 +183,7 @@ abbrev pub after_unload : List Facts → State → ℕ → Option ℕ → State
 after_unload facts s t None = s
 after_unload facts s t (Some l) = with_unloaded s l t (kept_of facts (lib_at s l))
 
--- 4. Live elements. Their owner is read by one word and set by another.
-
-abbrev pub owned_by : ℕ → ℕ
-owned_by c = c
+-- 4. Live elements.
 
 abbrev pub is_owned_by : ℕ → Live → Bool
 is_owned_by c x = nat_eq x.owner c
@@ -206,7 +203,7 @@ without_element s t = record s { live = filter (λ x. not (is_named t x)) s.live
 
 -- a method holds the instance whose row was chosen
 abbrev pub new_method : ℕ → ℕ → Choice → Live
-new_method n c chosen = record { number = n; owner = owned_by c; kind = Method; held = chosen.instance ∷ []; place = chosen.place; row = chosen.row; code = chosen.code }
+new_method n c chosen = record { number = n; owner = c; kind = Method; held = chosen.instance ∷ []; place = chosen.place; row = chosen.row; code = chosen.code }
 
 -- None never comes where a fetch is answered
 abbrev pub with_method : State → ℕ → Option Choice → State
@@ -224,7 +221,7 @@ held_by_inner s (Some t) = held_by (element_of s t)
 
 -- a second method is as the first, with a token and an owner of its own
 abbrev pub second_method : ℕ → ℕ → Live → Live
-second_method n c x = record x { number = n; owner = owned_by c }
+second_method n c x = record x { number = n; owner = c }
 
 -- None never comes in a legal history
 abbrev pub with_second : State → ℕ → Option Live → State
@@ -233,7 +230,7 @@ with_second s c (Some x) = with_element s (second_method s.next c x)
 
 -- an operation context has the method's provider, row and code, and holds the instances of the method and of the inner one
 abbrev pub new_context : State → ℕ → Option ℕ → Live → Live
-new_context s c inner m = record { number = s.next; owner = owned_by c; kind = Context; held = m.held ++ held_by_inner s inner; place = m.place; row = m.row; code = m.code }
+new_context s c inner m = record { number = s.next; owner = c; kind = Context; held = m.held ++ held_by_inner s inner; place = m.place; row = m.row; code = m.code }
 
 -- None never comes in a legal history
 abbrev pub with_context : State → ℕ → Option ℕ → Option Live → State

@@ -13,7 +13,7 @@ use ossl_provider::provider::Provider;
 use std::alloc::{AllocError, Global};
 
 /// The fallback once a load is accepted: off where it was armed, unless the load retains it.
-fn after_load(retain: bool, fallback: Fallback) -> Fallback
+fn fallback_after_load(retain: bool, fallback: Fallback) -> Fallback
     ensures { result ≡ fallback_after_load retain fallback }
 {
     match fallback {
@@ -34,7 +34,7 @@ pub fn give_activation(
     ensures { OnOk result (libs.new ≡ slice_set libs.old lib (loaded_of retain given (slice_index_or libs.old lib no_lib))) }
 {
     let mut was = libs.replace(lib, fresh_lib(alloc));
-    was.fallback = after_load(retain, was.fallback);
+    was.fallback = fallback_after_load(retain, was.fallback);
     was.given.push(given)?;
     libs.set(lib, was);
     Ok(())

@@ -6,7 +6,7 @@ ghost use Rattle.ossl_calls.specs.Events.{Keeps, Takes, Refuses, Bears, context_
 ghost use Rattle.ossl_calls.specs.Going.{answer_of, returned_by, without_going};
 ghost use Rattle.ossl_calls.specs.History.{IsLegal, IsAllowed, IsNext};
 ghost use Rattle.ossl_calls.specs.Registry.{IsCatalogue, HasSheets, are_apart, fixed_of, state_of, takes_no_memory};
-ghost use Rattle.ossl_calls.specs.Sound.{IsSound, giving_back, lent_after, lent_by};
+ghost use Rattle.ossl_calls.specs.Sound.{IsSound, LegalIsSound, giving_back, lent_after, lent_by};
 ghost use Rattle.ossl_calls.specs.State.{lib_at, up_instances};
 ghost use Rattle.ossl_calls.specs.Step.{after_activation, element_of, fallback_of, fetched_of, new_method, second_method, with_element, with_fallback_used};
 ghost use Rattle.ossl_calls.specs.Tokens.{entries_of};
@@ -22,7 +22,7 @@ use crate::going::{answer, returned, stop_going, take_out};
 use crate::load::{find_holder, find_kept, give_activation, reply_of_load};
 use crate::lookup::{is_open_lib, is_up_instance};
 use crate::opening::{counts_of, open_state};
-use crate::room::{append, reserve_room};
+use crate::room::{ONE_MORE, append, reserve_room};
 use crate::state::{Choice, Given, Going, Live, State};
 use ossl_base::text::Text;
 use ossl_codes::Operation;
@@ -80,7 +80,8 @@ pub struct Up {
 }
 
 impl<P: Provider> PlainRegistry<P> {
-    /// A registry over a catalogue of boxes, with 1 to 8 library contexts.
+    /// A registry over a catalogue of boxes, with 1 to 8 library contexts: at most 32 boxes, each with a name of its own, at most
+    /// 256 rows and nothing ever started. Want of memory is the only refusal, and hands the boxes back.
     pub fn open(
         alloc: Global,
         catalogue: Vec<P>,
@@ -118,8 +119,11 @@ impl<P: Provider> PlainRegistry<P> {
         })
     }
 
-    /// Makes a call for a caller, and appends its entry. A call that is refused memory leaves all as it was; the calls
-    /// that give something back are never refused it. A fetch counts a step for each clause that it tests.
+    /// Makes a call for a caller, and appends its entry. The caller owns each token that the call names, and the library
+    /// context that it names is one of the registry's.
+    ///
+    /// A call that is refused memory leaves all as it was. The calls that give something back are never refused it, nor is
+    /// the closing of an open library context. `steps` is handed to the scores of a fetch; nothing is said of its number.
     pub fn apply<L: Ledger>(
         &mut self,
         caller: u64,
@@ -159,6 +163,7 @@ impl<P: Provider> PlainRegistry<P> {
             Call::FreeCtx { handle } => Ok(self.free_ctx(caller, *handle)),
             Call::CloseLib { lib } => self.close_lib(caller, *lib),
         };
+        // The type's facts are told of what is looked at.
         let _ = &self.history;
         reply
     }
@@ -168,6 +173,8 @@ impl<P: Provider> PlainRegistry<P> {
         ensures entries { result.now ≡ self.now.entries }
         ensures legal { IsLegal (fixed_of P.facts self.now) self.now.entries }
         ensures sheets { HasSheets (fixed_of P.facts self.now) (map P.sheet self.now.boxes) self.now.entries }
+        // And what holds of every legal history: numbers are distinct, and a token that is owned is live.
+        ensures sound { LegalIsSound }
     {
         self.history.as_slice()
     }
@@ -417,6 +424,7 @@ impl<P: Provider> PlainRegistry<P> {
         ensures entry { self.new.entries ≡ self.old.entries ++ record { caller = caller; call = Call.Unload token; reply = result } ∷ [] }
         ensures fixed { fixed_of P.facts self.new ≡ fixed_of P.facts self.old }
     {
+        // The type's facts are told of what is looked at, here and in `free` and `free_ctx`.
         let _ = &self.state;
         let going = self.going_of(token);
         self.take_down(caller, Call::Unload { token }, &going)
@@ -619,7 +627,7 @@ impl<P: Provider> PlainRegistry<P> {
         ensures err { OnErr result (self.new ≡ self.old) }
     {
         let answer = reply.copy(self.alloc)?;
-        reserve_room(&mut self.history, &self.state, self.lent + 3)?;
+        reserve_room(&mut self.history, &self.state, self.lent + ONE_MORE)?;
         self.state.next += 1;
         let entry = Entry {
             caller,
@@ -646,7 +654,7 @@ impl<P: Provider> PlainRegistry<P> {
         ensures fixed { fixed_of P.facts self.new ≡ fixed_of P.facts self.old }
         ensures err { OnErr result (self.new ≡ self.old) }
     {
-        reserve_room(&mut self.history, &self.state, self.lent + 3)?;
+        reserve_room(&mut self.history, &self.state, self.lent + ONE_MORE)?;
         set_default(self.alloc, &mut self.state.libs, lib as usize, default);
         self.state.next += 1;
         let entry = Entry {
@@ -675,7 +683,7 @@ impl<P: Provider> PlainRegistry<P> {
         ensures err { OnErr result (self.new ≡ self.old) }
     {
         let answer = reply.copy(self.alloc)?;
-        reserve_room(&mut self.history, &self.state, self.lent + 3)?;
+        reserve_room(&mut self.history, &self.state, self.lent + ONE_MORE)?;
         self.state.live.push(made)?;
         self.state.next += 1;
         let entry = Entry {
@@ -705,7 +713,7 @@ impl<P: Provider> PlainRegistry<P> {
         ensures err { OnErr result (self.new ≡ self.old) }
     {
         let answer = reply.copy(self.alloc)?;
-        reserve_room(&mut self.history, &self.state, self.lent + 3)?;
+        reserve_room(&mut self.history, &self.state, self.lent + ONE_MORE)?;
         self.state = left;
         self.state.next += 1;
         let entry = Entry {
@@ -750,7 +758,7 @@ impl<P: Provider> PlainRegistry<P> {
             call,
             reply: refused.copy(self.alloc)?,
         };
-        reserve_room(&mut self.history, &self.state, self.lent + 3)?;
+        reserve_room(&mut self.history, &self.state, self.lent + ONE_MORE)?;
         let number = self.state.next;
         match start_at(&mut self.boxes, place, number) {
             Ok(()) => {

@@ -22,7 +22,7 @@ pub fn put_entry(alloc: Global, out: &mut Vec<u8>, entry: &Entry) -> Result<(), 
     out.extend_from_slice(text.as_slice())
 }
 
-/// Appends a text and a number in decimal digits.
+/// Appends a text and a number in decimal digits. Where memory is refused, what stands behind the old bytes is not said.
 pub fn put_numbered(alloc: Global, out: &mut Vec<u8>, text: &[u8], n: u64) -> Result<(), AllocError>
     ensures { OnOk result (out.new.items ≡ out.old.items ++ text.now ++ decimal n) }
 {
@@ -48,7 +48,8 @@ fn retain_word(retain: bool) -> &'static [u8]
     if retain { b" retain" } else { b"" }
 }
 
-/// Appends the text of a call.
+/// Appends the text of a call. Where memory is refused, what stands behind the old bytes is not said; `put_entry` appends nothing
+/// then.
 pub fn put_call(alloc: Global, out: &mut Vec<u8>, call: &Call) -> Result<(), AllocError>
     ensures { OnOk result (out.new.items ≡ out.old.items ++ call_text call.now) }
 {
@@ -113,7 +114,8 @@ fn put_inner(alloc: Global, out: &mut Vec<u8>, inner: Option<u64>) -> Result<(),
     }
 }
 
-/// Appends the text of a reply.
+/// Appends the text of a reply. Where memory is refused, what stands behind the old bytes is not said; `put_entry` appends nothing
+/// then.
 pub fn put_reply(alloc: Global, out: &mut Vec<u8>, reply: &Reply) -> Result<(), AllocError>
     ensures { OnOk result (out.new.items ≡ out.old.items ++ reply_text reply.now) }
 {

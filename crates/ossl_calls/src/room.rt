@@ -5,6 +5,10 @@ use crate::call::{Entry, Reply};
 use crate::state::{LibCtx, State};
 use std::alloc::AllocError;
 
+/// The places that one more entry takes at most: its own, and one to give back each thing that it may hand out, an element and
+/// an activation.
+pub const ONE_MORE: usize = 3;
+
 fn count_open(libs: &[LibCtx]) -> usize
     ensures { result ≡ open_count libs.now }
 {

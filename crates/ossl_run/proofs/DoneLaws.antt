@@ -1,7 +1,8 @@
--- Whatever the list, a run holds each caller's calls once and in its order, and then those by which it gives back.
+-- Whatever the list, a run holds each caller's calls once and in its order, and then those by which it gives back; the program's stand before and behind them.
 use Rattle.std.proofs.Common.{◌≡◌, ℕ, zero, suc, ◌+◌, ◌<◌, ◌≤◌, max, Bool, true, false, nat_eq, nat_lt, List, [], ◌∷◌, ◌++◌, map, refl, sym, ◌∙◌, ap, subst, arith, append_assoc, eq-eqb, inl, inr}
-use Rattle.std.specs.Prelude.{None, Some, Option, filter, filter_map, flat_map, fold}
-use Rattle.std.specs.List.{range_with_len}
+use Rattle.std.specs.Prelude.{None, Some, Option, filter, filter_map, flat_map, fold, Ok, Err, Result, ok_or, option_and_then, slice_get, drop, ◌==◌}
+use Rattle.std.specs.Str.Lines.{lines}
+use Rattle.std.specs.List.{list_all, range_with_len}
 use Rattle.std.proofs.lemmas.Bool.{cases_Bool, eqb-true, eqb-false, ne_eqb}
 use Rattle.std.proofs.lemmas.List.{map-append, append-nil}
 use Rattle.std.proofs.lemmas.List.Elements.{filter-append}
@@ -11,13 +12,21 @@ use Rattle.ossl_calls.specs.declared.call.Reply.{Reply}
 use Rattle.ossl_calls.specs.Tokens.{entries_of}
 use Rattle.ossl_script.specs.declared.caller.Next.{Next}
 use Rattle.ossl_script.specs.declared.caller.Next.TheVariants as nexts
+use Rattle.ossl_script.specs.declared.command.Command.{Command}
 use Rattle.ossl_script.specs.declared.command.Line.{Line}
+use Rattle.ossl_script.specs.declared.command.Verb.{Verb}
+use Rattle.ossl_script.specs.declared.kind.LineKind.{LineKind}
+use Rattle.ossl_script.specs.declared.kind.LineKind.TheVariants as kinds
 use Rattle.ossl_script.specs.Caller.{Follows, after_reply, call_in, lines_of, next_at, opening}
 use Rattle.ossl_script.specs.Counts.{callers_of}
 use Rattle.ossl_script.specs.Given.{Content, content_by}
+use Rattle.ossl_script.specs.Judging.{Fault, ◌>>=◌, command_in, commands_from, holds, judged, numbered}
+use Rattle.ossl_script.specs.Lines.{before_query, is_allowed, is_skipped, query_text, words_of}
+use Rattle.ossl_script.specs.Table.{verb_of}
+use Rattle.ossl_script.specs.Words.{caller_of, number_of, positive}
 use Rattle.ossl_run.specs.declared.turns.Turn.{Turn}
 use Rattle.ossl_run.specs.Batched.{Batch, giving_back_of, next_of, replies_to}
-use Rattle.ossl_run.specs.Turns.{Drawn, EachCallerIsDone, IsDone, IsInTurn, by_caller, by_text, callers_in, drawn, least, lesser, listed, next_turn, returning_calls, turn_at, turn_of}
+use Rattle.ossl_run.specs.Turns.{Drawn, EachCallerIsDone, ProgramIsApart, IsDone, IsInTurn, by_caller, by_text, callers_in, drawn, least, lesser, listed, next_turn, returning_calls, turn_at, turn_of}
 use Rattle.ossl_run.proofs.TurnLaws.{Each, replies-push}
 
 -- 1. The calls of one caller among pairs of a caller and a call.
@@ -128,10 +137,10 @@ stays_ended content [] = refl
 stays_ended content (reply ∷ replies) = stays_ended content replies
 
 module _ (batch : Batch) where
-  no_calls : (c : ℕ) (replies : List Reply) → callers_of batch.lines < c → next_of batch c replies ≡ nexts.End
-  no_calls c replies above =
+  no_calls : (c : ℕ) (replies : List Reply) → lines_of c batch.lines ≡ [] → next_of batch c replies ≡ nexts.End
+  no_calls c replies none =
       let P : List Line → Type 0 = λ lines. next_at (fold (after_reply (content_by batch.lines batch.contents)) (opening (content_by batch.lines batch.contents) lines) replies).place ≡ nexts.End in
-      subst P (sym (no_lines c 0 batch.lines above).1) (stays_ended (content_by batch.lines batch.contents) replies)
+      subst P (sym none) (stays_ended (content_by batch.lines batch.contents) replies)
 
   -- 5. The turns of a caller are its calls, to its end.
 
@@ -152,14 +161,14 @@ module _ (batch : Batch) where
         | inr other ↦ rw other (rw other at rest)
       ]
 
-  no_turns : (c : ℕ) (list : List ℕ) (past es : List (Entry Call Reply)) → callers_of batch.lines < c → IsInTurn batch list past es → entries_of c es ≡ []
-  no_turns c list past [] above run = refl
-  no_turns c list past (e ∷ es) above (next, is, turn, later) = elim (cases_Bool (nat_eq e.caller c)) [
+  no_turns : (c : ℕ) (list : List ℕ) (past es : List (Entry Call Reply)) → lines_of c batch.lines ≡ [] → IsInTurn batch list past es → entries_of c es ≡ []
+  no_turns c list past [] none run = refl
+  no_turns c list past (e ∷ es) none (next, is, turn, later) = elim (cases_Bool (nat_eq e.caller c)) [
     | inl mine ↦
         let call = is_next c past e next.turn.line mine turn.call in
-        let end = no_calls c (replies_to c past) above in
+        let end = no_calls c (replies_to c past) none in
         cc
-    | inr other ↦ rw other (no_turns c next.rest (past ++ e ∷ []) es above later)
+    | inr other ↦ rw other (no_turns c next.rest (past ++ e ∷ []) es none later)
   ]
 
   drawn-none : (rest : List ℕ) (o : Option Turn) → drawn rest o ≡ None → o ≡ None
@@ -224,4 +233,86 @@ each_caller_is_done settings batch list entries c run low = (inside, outside)
     outside : callers_of batch.lines < c → entries_of c entries ≡ []
     outside above =
         let none = returned ∙ calls_by-outside (λ k. giving_back_of batch k (replies_to k run.turns)) c 1 (callers_of batch.lines) (λ k from below. ne_eqb k c (λ is. absurd (omega (arith, above, below, is)))) in
-        parts ∙ ap (λ l. l ++ entries_of c run.returning) (no_turns batch c list [] run.turns above run.in_turn) ∙ no_calls_no_entries (entries_of c run.returning) none
+        parts ∙ ap (λ l. l ++ entries_of c run.returning) (no_turns batch c list [] run.turns (no_lines c 0 batch.lines above).1 run.in_turn) ∙ no_calls_no_entries (entries_of c run.returning) none
+
+-- 7. No line of a text is the program's, so its entries are the opening and the closing.
+
+some-ok : {A E : Type 0} (o : Option A) (fault : E) (a : A) → ok_or o fault ≡ Ok a → o ≡ Some a
+some-ok None fault a is = cc
+some-ok (Some b) fault a is = cc
+
+some-then : {A B : Type 0} (f : A → Option B) (o : Option A) (b : B) → option_and_then f o ≡ Some b → (a : A) × (f a ≡ Some b)
+some-then f None b is = cc
+some-then f (Some a) b is = (a, is)
+
+is_positive : (n m : ℕ) → positive n ≡ Some m → 0 < m
+is_positive n m is = elim (cases_Bool (n == 0)) [
+  | inl none_left ↦ let none : None ≡ Some m = rw none_left at is in cc
+  | inr above ↦
+      let some : Some n ≡ Some m = rw above at is in
+      let same : n ≡ m = cc in
+      omega (arith, same, eqb-false n 0 above)
+]
+
+-- the steps of a line that is judged good: the second told its caller
+caller_told : (allowed : Result Bool LineKind) (caller : Result ℕ LineKind) (verb : Result Verb LineKind) (command : Verb → Result Command LineKind) (told : ℕ × Command) →
+    allowed >>= (λ a. caller >>= (λ c. verb >>= (λ v. command v >>= (λ x. Ok (c, x))))) ≡ Ok told → caller ≡ Ok told.0
+caller_told (Err kind) caller verb command told is = cc
+caller_told (Ok a) (Err kind) verb command told is = cc
+caller_told (Ok a) (Ok c) (Err kind) command told is = cc
+caller_told (Ok a) (Ok c) (Ok v) command told is = ap Ok (of (command v) is)
+  where
+    of : (r : Result Command LineKind) → r >>= (λ x. Ok (c, x)) ≡ Ok told → c ≡ told.0
+    of (Err kind) is = cc
+    of (Ok x) is = let same : (c, x) ≡ told = cc in ap (λ (p : ℕ × Command). p.0) same
+
+-- a line that is judged good has a caller's number
+has_caller : (text : List ℕ) (told : ℕ × Command) → judged text ≡ Ok told → 0 < told.0
+has_caller text told is =
+    let words = words_of (before_query true text) in
+    let caller = caller_told (holds (list_all is_allowed text) kinds.Byte) (ok_or (option_and_then caller_of (slice_get words 0)) kinds.Caller) (ok_or (option_and_then verb_of (slice_get words 1)) kinds.Command)
+    (λ verb. command_in verb (drop 2 words) (query_text true text)) told is in
+    let word = some-then caller_of (slice_get words 0) told.0 (some-ok (option_and_then caller_of (slice_get words 0)) kinds.Caller told.0 caller) in
+    let number = some-then positive (number_of word.0) told.0 word.1 in
+    is_positive number.0 told.0 number.1
+
+none_by_program : (number : ℕ) (texts : List (List ℕ)) (lines : List Line) → commands_from number texts ≡ Ok lines → lines_of 0 lines ≡ []
+none_by_program number [] [] is = refl
+none_by_program number [] (line ∷ lines) is = cc
+none_by_program number (text ∷ texts) lines is = elim (cases_Bool (is_skipped text)) [
+  | inl skipped ↦ none_by_program (number + 1) texts lines (rw skipped at is)
+  | inr told ↦ of (judged text) refl (commands_from (number + 1) texts) (λ more behind. none_by_program (number + 1) texts more behind) (rw told at is)
+]
+  where
+    of : (said : Result (ℕ × Command) LineKind) → judged text ≡ said → (later : Result (List Line) Fault) → ((more : List Line) → later ≡ Ok more → lines_of 0 more ≡ []) → numbered number said later ≡ Ok lines → lines_of 0 lines ≡ []
+    of (Err kind) said later behind is = cc
+    of (Ok told) said (Err fault) behind is = cc
+    of (Ok told) said (Ok more) behind is =
+        let whole : lines ≡ record { number = number; caller = told.0; command = told.1 } ∷ more = cc in
+        rw (whole, ne_eqb told.0 0 (λ zero. absurd (omega (arith, has_caller text told said, zero)))) (behind more refl)
+
+pub program_is_apart : ProgramIsApart
+program_is_apart text settings batch list entries is run =
+    ap (entries_of 0) run.parts
+    ∙ last ∙ middle ∙ ap (λ l. l ++ entries_of 0 run.closing) first ∙ ap (λ l. run.opening ++ l) run.closed.caller
+  where
+    none : lines_of 0 batch.lines ≡ []
+    none = none_by_program 1 (lines text) batch.lines is
+
+    returning : entries_of 0 run.returning ≡ []
+    returning = no_calls_no_entries (entries_of 0 run.returning) (
+        sym (calls_by-entries 0 run.returning) ∙ ap (calls_by 0) run.returned
+        ∙ calls_by-outside (λ k. giving_back_of batch k (replies_to k run.turns)) 0 1 (callers_of batch.lines) (λ k from below. ne_eqb k 0 (λ zero. absurd (omega (arith, from, zero)))))
+
+    last : entries_of 0 (run.opening ++ run.turns ++ run.returning ++ run.closing) ≡ entries_of 0 (run.opening ++ run.turns ++ run.returning) ++ entries_of 0 run.closing
+    last = filter-append (λ (e : Entry Call Reply). nat_eq e.caller 0) (run.opening ++ run.turns ++ run.returning) run.closing
+
+    middle : entries_of 0 (run.opening ++ run.turns ++ run.returning) ++ entries_of 0 run.closing ≡ entries_of 0 (run.opening ++ run.turns) ++ entries_of 0 run.closing
+    middle = ap (λ l. l ++ entries_of 0 run.closing) (
+        filter-append (λ (e : Entry Call Reply). nat_eq e.caller 0) (run.opening ++ run.turns) run.returning
+        ∙ ap (λ l. entries_of 0 (run.opening ++ run.turns) ++ l) returning ∙ append-nil (entries_of 0 (run.opening ++ run.turns)))
+
+    first : entries_of 0 (run.opening ++ run.turns) ≡ run.opening
+    first =
+        filter-append (λ (e : Entry Call Reply). nat_eq e.caller 0) run.opening run.turns
+        ∙ ap (λ l. entries_of 0 run.opening ++ l) (no_turns batch 0 list [] run.turns none run.in_turn) ∙ append-nil (entries_of 0 run.opening) ∙ run.opened.caller

@@ -1,5 +1,5 @@
 -- Over the same boxes, with the same starts refused, there is only one finished run in the order of a list.
-use Rattle.std.proofs.Common.{◌≡◌, ℕ, Bool, true, false, List, [], ◌∷◌, ◌++◌, map, refl, sym, ◌∙◌, ap, subst, nat_eq, append_assoc, inl, inr}
+use Rattle.std.proofs.Common.{◌≡◌, ℕ, suc, Bool, true, false, List, [], ◌∷◌, ◌++◌, map, refl, sym, ◌∙◌, ap, subst, nat_eq, append_assoc, inl, inr}
 use Rattle.std.specs.Prelude.{None, Some, Option, if◌then◌else◌, is_some}
 use Rattle.std.proofs.lemmas.Bool.{cases_Bool, eqb-true}
 use Rattle.std.proofs.lemmas.List.{append-nil}
@@ -20,7 +20,7 @@ use Rattle.ossl_script.specs.Counts.{contexts_of}
 use Rattle.ossl_script.specs.declared.caller.Next.TheVariants as nexts
 use Rattle.ossl_run.specs.Batched.{Batch, next_of, replies_to}
 use Rattle.ossl_run.specs.Opening.{activations_of, closing_calls}
-use Rattle.ossl_run.specs.Turns.{Drawn, IsInTurn, RunIsFixed, by_caller, is_refused_start, refused_starts, returning_calls}
+use Rattle.ossl_run.specs.Turns.{Drawn, IsInTurn, RunIsFixed, by_caller, is_refused_start, refuses_at, returning_calls}
 
 -- 1. There is one reply to a call, but for a refused start.
 
@@ -96,25 +96,25 @@ calls_of es = map (λ e. by_caller e.caller e.call) es
 -- what stands behind entries of the same callers and calls
 pub record AreSame (xs ys rest others : List (Entry Call Reply)) : Type 0 where
   pub same : ys ≡ xs
-  pub refused : refused_starts others ≡ refused_starts rest
+  pub refused : (k : ℕ) → refuses_at k others ≡ refuses_at k rest
 
 module _ (fixed : Fixed) where
   same_calls : (s : State) (past xs ys rest others : List (Entry Call Reply)) → IsRun fixed s past (xs ++ rest) → IsRun fixed s past (ys ++ others) →
-      refused_starts (ys ++ others) ≡ refused_starts (xs ++ rest) → calls_of ys ≡ calls_of xs → AreSame xs ys rest others
+      ((k : ℕ) → refuses_at k (ys ++ others) ≡ refuses_at k (xs ++ rest)) → calls_of ys ≡ calls_of xs → AreSame xs ys rest others
   same_calls s past [] [] rest others run other_run refused calls = record { same = refl; refused = refused }
   same_calls s past [] (y ∷ ys) rest others run other_run refused calls = cc
   same_calls s past (x ∷ xs) [] rest others run other_run refused calls = cc
   same_calls s past (x ∷ xs) (y ∷ ys) rest others run other_run refused calls =
       let pair : by_caller y.caller y.call ≡ by_caller x.caller x.call = cc in
-      let same : y ≡ x = same_entry fixed.facts s x y (ap (λ (p : ℕ × Call). p.0) pair) (ap (λ (p : ℕ × Call). p.1) pair) run.0.answers other_run.0.answers (cc) in
+      let same : y ≡ x = same_entry fixed.facts s x y (ap (λ (p : ℕ × Call). p.0) pair) (ap (λ (p : ℕ × Call). p.1) pair) run.0.answers other_run.0.answers (refused 0) in
       let P : Entry Call Reply → Type 0 = λ e. IsRun fixed (after_entry fixed.facts s e) (past ++ e ∷ []) (ys ++ others) in
-      let behind = same_calls (after_entry fixed.facts s x) (past ++ x ∷ []) xs ys rest others run.1 (subst P same other_run.1) (cc) (cc) in
+      let behind = same_calls (after_entry fixed.facts s x) (past ++ x ∷ []) xs ys rest others run.1 (subst P same other_run.1) (λ k. refused (suc k)) (cc) in
       record { same = ap (λ e. e ∷ ys) same ∙ ap (λ l. x ∷ l) behind.same; refused = behind.refused }
 
   -- 3. Turns are the same.
 
   same_turns : (batch : Batch) (list : List ℕ) (s : State) (past made xs ys rest others : List (Entry Call Reply)) → IsInTurn batch list made xs → IsInTurn batch list made ys →
-      IsRun fixed s past (xs ++ rest) → IsRun fixed s past (ys ++ others) → refused_starts (ys ++ others) ≡ refused_starts (xs ++ rest) → AreSame xs ys rest others
+      IsRun fixed s past (xs ++ rest) → IsRun fixed s past (ys ++ others) → ((k : ℕ) → refuses_at k (ys ++ others) ≡ refuses_at k (xs ++ rest)) → AreSame xs ys rest others
   same_turns batch list s past made [] [] rest others turns other_turns run other_run refused = record { same = refl; refused = refused }
   same_turns batch list s past made [] (y ∷ ys) rest others turns (next, is, turn, later) run other_run refused = cc
   same_turns batch list s past made (x ∷ xs) [] rest others (next, is, turn, later) other_turns run other_run refused = cc
@@ -125,11 +125,11 @@ module _ (fixed : Fixed) where
       let its : next_of batch x.caller (replies_to x.caller made) ≡ nexts.Call other_next.turn.line y.call = subst N caller other_turn.call in
       let theirs : next_of batch x.caller (replies_to x.caller made) ≡ nexts.Call next.turn.line x.call = turn.call in
       let call : y.call ≡ x.call = cc in
-      let same : y ≡ x = same_entry fixed.facts s x y caller call run.0.answers other_run.0.answers cc in
+      let same : y ≡ x = same_entry fixed.facts s x y caller call run.0.answers other_run.0.answers (refused 0) in
       let P : Entry Call Reply → Type 0 = λ e. IsRun fixed (after_entry fixed.facts s e) (past ++ e ∷ []) (ys ++ others) in
       let Q : Entry Call Reply → Type 0 = λ e. IsInTurn batch other_next.rest (made ++ e ∷ []) ys in
       let R : Drawn → Type 0 = λ d. IsInTurn batch d.rest (made ++ x ∷ []) ys in
-      let behind = same_turns batch next.rest (after_entry fixed.facts s x) (past ++ x ∷ []) (made ++ x ∷ []) xs ys rest others later (subst R same_next (subst Q same other_later)) run.1 (subst P same other_run.1) cc in
+      let behind = same_turns batch next.rest (after_entry fixed.facts s x) (past ++ x ∷ []) (made ++ x ∷ []) xs ys rest others later (subst R same_next (subst Q same other_later)) run.1 (subst P same other_run.1) (λ k. refused (suc k)) in
       record { same = ap (λ e. e ∷ ys) same ∙ ap (λ l. x ∷ l) behind.same; refused = behind.refused }
 
   -- what stands behind the first entries is a run from the state that they leave
@@ -183,10 +183,10 @@ run_is_fixed settings batch list fixed entries others run legal other other_lega
     other_whole : IsRun fixed start [] (other.opening ++ others_behind_opening)
     other_whole = subst (IsRun fixed start []) (other.parts ∙ joined other.opening other.turns other.returning other.closing) other_legal
 
-    refused_whole : refused_starts (other.opening ++ others_behind_opening) ≡ refused_starts (run.opening ++ behind_opening)
-    refused_whole =
-        sym (ap refused_starts (other.parts ∙ joined other.opening other.turns other.returning other.closing))
-        ∙ refused ∙ ap refused_starts (run.parts ∙ joined run.opening run.turns run.returning run.closing)
+    refused_whole : (k : ℕ) → refuses_at k (other.opening ++ others_behind_opening) ≡ refuses_at k (run.opening ++ behind_opening)
+    refused_whole k =
+        sym (ap (refuses_at k) (other.parts ∙ joined other.opening other.turns other.returning other.closing))
+        ∙ refused k ∙ ap (refuses_at k) (run.parts ∙ joined run.opening run.turns run.returning run.closing)
 
     opening : AreSame run.opening other.opening behind_opening others_behind_opening
     opening = same_calls fixed start [] run.opening other.opening behind_opening others_behind_opening whole other_whole refused_whole
@@ -232,6 +232,6 @@ run_is_fixed settings batch list fixed entries others run legal other other_lega
     closing_same : AreSame run.closing other.closing [] []
     closing_same = same_calls fixed (state_from fixed.facts after_turns run.returning) (run.opening ++ run.turns ++ run.returning) run.closing other.closing [] []
         (ended run.closing run_closing) (ended other.closing other_closing)
-        (ap refused_starts (append-nil other.closing) ∙ returning.refused ∙ sym (ap refused_starts (append-nil run.closing)))
+        (λ k. ap (refuses_at k) (append-nil other.closing) ∙ returning.refused k ∙ sym (ap (refuses_at k) (append-nil run.closing)))
         (same_program run.closing other.closing run.closed.caller other.closed.caller
         (other.closed.calls ∙ ap (λ o. closing_calls (contexts_of batch.lines) (activations_of o)) opening.same ∙ sym run.closed.calls))

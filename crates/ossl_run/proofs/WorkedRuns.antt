@@ -13,7 +13,7 @@ use Rattle.ossl_calls.specs.declared.call.Call.{Call}
 use Rattle.ossl_calls.specs.declared.call.Call.TheVariants.{Load, Unload, SetDefault, Fetch, Free, NewCtx, FreeCtx, CloseLib}
 use Rattle.ossl_calls.specs.declared.call.Reply.{Reply}
 use Rattle.ossl_calls.specs.declared.call.Reply.TheVariants.{Loaded, Fetched, Made, Done, NoProvider}
-use Rattle.ossl_calls.specs.History.{Fixed}
+use Rattle.ossl_calls.specs.History.{Fixed, IsLegal}
 use Rattle.ossl_conf.specs.View.{SettingsView}
 use Rattle.ossl_conf.specs.declared.kind.ConfKind.TheVariants.{Equals}
 use Rattle.ossl_conf.specs.declared.refusal.ConfRefused.TheVariants as refusals
@@ -99,6 +99,25 @@ loads_in_order = record {
   returned = refl;
   closed = record { caller = refl; calls = refl };
 }
+
+-- and it is a legal history over these boxes
+pub loads_legal : IsLegal two_boxes loads_ended
+loads_legal = (
+  record { allowed = record { lib = refl; tokens = refl }; answers = (refl, refl) },
+  (
+    record { allowed = record { lib = refl; tokens = refl }; answers = (refl, refl) },
+    (
+      record { allowed = record { lib = refl; tokens = refl }; answers = (refl, refl) },
+      (
+        record { allowed = record { lib = refl; tokens = refl }; answers = refl },
+        (
+          record { allowed = record { lib = refl; tokens = refl }; answers = refl },
+          (record { allowed = record { lib = refl; tokens = refl }; answers = refl }, (record { allowed = record { lib = refl; tokens = refl }; answers = refl }, tt)),
+        ),
+      ),
+    ),
+  ),
+)
 
 -- the lines of which the calls are, one after the other
 pub loads_lines : lines_from loads [] loads_run ≡ 1 ∷ 2 ∷ 3 ∷ 4 ∷ []

@@ -134,7 +134,7 @@ pub record IsDone (batch : Batch) (caller : ℕ) (entries : List (Entry Call Rep
   pub ended : next_of batch caller (replies_of made) ≡ nexts.End
   pub returned : map (λ e. e.call) given ≡ giving_back_of batch caller (replies_of made)
 
--- whatever the list, a run holds each caller's calls once and in its order, and no others but the program's
+-- whatever the list, a run holds each caller's calls once and in its order, and those of no other caller but the program
 abbrev pub EachCallerIsDone : Type 0
 EachCallerIsDone = (settings : SettingsView) (batch : Batch) (list : List ℕ) (entries : List (Entry Call Reply)) (caller : ℕ)
     → IsRunInOrder settings batch list entries
@@ -142,14 +142,21 @@ EachCallerIsDone = (settings : SettingsView) (batch : Batch) (list : List ℕ) (
     → (caller ≤ callers_of batch.lines → IsDone batch caller (entries_of caller entries))
     × (callers_of batch.lines < caller → entries_of caller entries ≡ [])
 
+-- the program's entries are the opening and the closing, before and behind all others
+abbrev pub ProgramIsApart : Type 0
+ProgramIsApart = (text : List ℕ) (settings : SettingsView) (batch : Batch) (list : List ℕ) (entries : List (Entry Call Reply))
+    → commands_of text ≡ Ok batch.lines
+    → (run : IsRunInOrder settings batch list entries)
+    → entries_of 0 entries ≡ run.opening ++ run.closing
+
 -- a reply says that a start was refused: the one choice that neither the batch nor the registry makes
 abbrev pub is_refused_start : Reply → Bool
 is_refused_start (StartRefused provider) = true
 is_refused_start reply = false
 
--- which starts were refused, entry by entry
-abbrev pub refused_starts : List (Entry Call Reply) → List Bool
-refused_starts entries = map (λ e. is_refused_start e.reply) entries
+-- the entry at this place, from 0, says so; there may be none
+abbrev pub refuses_at : ℕ → List (Entry Call Reply) → Bool
+refuses_at k entries = slice_index_or (map (λ e. is_refused_start e.reply) entries) k false
 
 -- over the same boxes and library contexts, with the same starts refused, there is only one finished run in the order of a list
 abbrev pub RunIsFixed : Type 0
@@ -158,5 +165,5 @@ RunIsFixed = (settings : SettingsView) (batch : Batch) (list : List ℕ) (fixed 
     → IsLegal fixed entries
     → IsRunInOrder settings batch list others
     → IsLegal fixed others
-    → refused_starts others ≡ refused_starts entries
+    → ((k : ℕ) → refuses_at k others ≡ refuses_at k entries)
     → others ≡ entries

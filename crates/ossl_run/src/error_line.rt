@@ -42,7 +42,8 @@ impl ErrorLine {
         }
     }
 
-    /// Appends the line, with its line feed. Where memory is refused, `out` is as it was.
+    /// Appends the line, with its line feed; want of memory has no line, and nothing is appended. Where memory is refused, `out` is
+    /// as it was.
     pub fn put(&self, alloc: Global, out: &mut Vec<u8>) -> Result<(), AllocError>
         ensures ok { OnOk result (out.new.items ≡ out.old.items ++ error_text self.now) }
         ensures err { OnErr result (out.new.items ≡ out.old.items) }
@@ -52,7 +53,7 @@ impl ErrorLine {
     }
 }
 
-// The line in a vector of its own.
+/// The line in a vector of its own.
 fn line_of(alloc: Global, error: &ErrorLine) -> Result<Vec<u8>, AllocError>
     ensures { IfOk result (λ line. line.items ≡ error_text error.now) }
 {
@@ -80,7 +81,7 @@ fn line_of(alloc: Global, error: &ErrorLine) -> Result<Vec<u8>, AllocError>
     Ok(line)
 }
 
-// Appends a word that ends its line.
+/// Appends a word that ends its line.
 fn put_word(line: &mut Vec<u8>, word: &str) -> Result<(), AllocError>
     ensures { OnOk result (line.new.items ≡ line.old.items ++ word.now ++ codes "\n") }
 {

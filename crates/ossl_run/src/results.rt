@@ -18,7 +18,7 @@ pub fn batch_caller(callers: &[u64], number: u64) -> u64
     }
 }
 
-// Where a number stands first.
+/// Where a number stands first.
 fn place_among(numbers: &[u64], number: u64) -> Option<usize>
     ensures place { result ≡ position (λ other. nat_eq other number) numbers.now }
     ensures within { IfSome result (λ place. place < length numbers.now) }
@@ -45,7 +45,7 @@ pub fn put_results(
     out.extend_from_slice(text.as_slice())
 }
 
-// Appends the line of a result.
+/// Appends the line of a result.
 fn put_result(alloc: Global, out: &mut Vec<u8>, told: &LineResult) -> Result<(), AllocError>
     ensures { OnOk result (out.new.items ≡ out.old.items ++ result_line told.now) }
 {

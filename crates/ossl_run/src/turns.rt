@@ -1,7 +1,7 @@
 //! Whose turn it is in a run.
 
 ghost use Rattle.std.specs.Prelude.{◌≡◌};
-ghost use Rattle.ossl_run.specs.Turns.{EachCallerIsDone, OrderOfText, RunIsFixed, least, lesser};
+ghost use Rattle.ossl_run.specs.Turns.{EachCallerIsDone, OrderOfText, ProgramIsApart, RunIsFixed, least, lesser};
 
 /// A caller that has a call left: its number in the batch, and the number of the line of its next call.
 #[derive(Clone, Copy, Debug, PartialEq, Eq)]
@@ -12,13 +12,15 @@ pub struct Turn {
 
 /// Of the callers that have a call left, the one whose next call has the least line; none where there are none.
 ///
-/// A run that goes by this alone takes the lines one after the other, in the order of the text. Whatever list goes before, a run
-/// holds each caller's calls once and in its order, and nothing but a refused start may let one run differ from another.
+/// The laws of runs stand here until a run has a body. One that goes by this alone takes the lines one after the other, in the
+/// order of the text. Whatever list goes before, it holds each caller's calls once and in its order, the program's before and
+/// behind them, and nothing but a refused start may let one run differ from another.
 #[tactic(auto, using(crate::proofs::TurnLaws::order_of_text))]
 pub fn least(turns: &[Turn]) -> Option<Turn>
     ensures turn { result ≡ least turns.now }
     ensures order_of_text { OrderOfText }
     ensures each_is_done { EachCallerIsDone }
+    ensures apart { ProgramIsApart }
     ensures fixed { RunIsFixed }
 {
     let mut first = None;
@@ -28,7 +30,7 @@ pub fn least(turns: &[Turn]) -> Option<Turn>
     first
 }
 
-// Of two turns the one of the lesser line.
+/// Of two turns the one of the lesser line.
 fn lesser(first: Option<Turn>, turn: Turn) -> Option<Turn>
     ensures { result ≡ lesser first turn }
 {

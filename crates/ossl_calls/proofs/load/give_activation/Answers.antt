@@ -12,6 +12,6 @@ returns c =
     let l = c.args.lib in
     let was = c.replace-was.result in
     let same : was ≡ get_or libs l no_lib = c.replace-was.ensures.value ∙ get_or_default libs l was no_lib c.requires in
-    (rw (c.replace-was.ensures.rest, c.in_ok-push.ensures.ok, c.after_load-was.ensures) at c.set.ensures)
+    (rw (c.replace-was.ensures.rest, c.in_ok-push.ensures.ok, c.fallback_after_load-was.ensures) at c.set.ensures)
     ∙ set_twice libs l c.fresh_lib.result (loaded_of c.args.retain c.args.given was)
     ∙ ap (λ lib. set libs l (loaded_of c.args.retain c.args.given lib)) same

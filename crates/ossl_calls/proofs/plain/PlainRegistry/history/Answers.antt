@@ -1,0 +1,6 @@
+use Rattle.ossl_calls.proofs.LegalLaws.{sound_after}
+use Rattle.ossl_calls.proofs.plain.PlainRegistry.history.Goals as goal
+
+-- src/plain.rt
+pub returns-clause-sound : goal.returns-clause-sound
+returns-clause-sound c result = sound_after
