@@ -4,7 +4,7 @@ ghost use Rattle.std.specs.Prelude.{◌≡◌, ℕ, ◌+◌, ◌≤◌, List, []
 ghost use Rattle.ossl_aes.specs.Cipher.{add};
 
 /// A cipher of blocks of 16 bytes, with its key.
-pub trait Block {
+pub trait Block: Drop {
     /// What a block is encrypted to.
     ghost enc: { Self → List ℕ → List ℕ };
 

@@ -92,9 +92,7 @@ impl<C: Block> Cmac<C> {
         self.chain(&rest[..whole]);
         self.hold(&rest[whole..]);
     }
-}
 
-impl<C: Block + Drop> Cmac<C> {
     /// The code of all bytes fed.
     pub fn finish(self) -> [u8; 16]
         ensures { result ≡ mac_of self [] }

@@ -1,6 +1,6 @@
 -- A mode goes on from block to block: the laws by which a text may be cut anywhere.
 use Rattle.std.proofs.Common.{◌≡◌, ◌≢◌, ℕ, zero, suc, ◌+◌, ◌-◌, ◌*◌, ◌/◌, ◌%◌, ◌<◌, ◌≤◌, Bool, true, false, cond, nat_eq, ◌&&◌, List, [], ◌∷◌, ◌++◌, length, take, drop, Result, Ok, Err, refl, sym, ap, ◌∙◌, arith, append_assoc, length-append, replicate, lit<, lit≤, inl, inr, ◌⊎◌, bit_xor}
-use Rattle.std.proofs.lemmas.List.{take_at, drop_at, take_all, length-replicate, append-nil, length-take-le, length-drop, drop-drop}
+use Rattle.std.proofs.lemmas.List.{append_cancel_left, take_at, drop_at, take_all, length-replicate, append-nil, length-take-le, length-drop, drop-drop}
 use Rattle.std.proofs.lemmas.Bool.{cases_lt}
 use Rattle.std.proofs.lemmas.Bool.Decides.{nat_tests}
 use Rattle.ossl_aes.specs.Cipher.{add}
@@ -10,7 +10,7 @@ use Rattle.ossl_modes.specs.declared.kinds.ModeKind.{ModeKind}
 use Rattle.ossl_modes.specs.declared.kinds.FinishRefused.{FinishRefused}
 use Rattle.ossl_modes.specs.declared.kinds.FinishRefused.TheVariants.{WrongFinalBlock, BadDecrypt, StreamEnd, NoMemory}
 use Rattle.ossl_modes.specs.Modes.{block_out, block_next, blocks, value_after, equations, whole_blocks, checked, outcome, is_stream, before, padded, unpadded}
-use Rattle.ossl_modes.specs.Run.{Finishes, RunsTo}
+use Rattle.ossl_modes.specs.Run.{Finishes, IsBeginning, RunsTo}
 
 -- two texts put before an outcome are one
 pub before-append : (a b : List ℕ) (r : Result (List ℕ) FinishRefused) → before a (before b r) ≡ before (a ++ b) r
@@ -270,14 +270,31 @@ before_refused : (t : List ℕ) (o : Result (List ℕ) FinishRefused) (x : Finis
 before_refused t (Ok y) x h = absurd (cc)
 before_refused t (Err y) x h = h
 
+-- what was appended to a text to which something was appended
+pub appended_twice : (start now new : List ℕ) → (given : List ℕ) × (now ≡ start ++ given) → (given : List ℕ) × (new ≡ now ++ given)
+    → (given : List ℕ) × (new ≡ start ++ given)
+appended_twice start now new first then =
+    (first.0 ++ then.0, then.1 ∙ ap (λ (x : List ℕ). x ++ then.0) first.1 ∙ append_assoc start first.0 then.0)
+
+-- what was appended so far is a beginning of the text w, of which left is yet to come
+pub begins : (start now new w left : List ℕ) → (given : List ℕ) × (now ≡ start ++ given) → start ++ w ≡ now ++ left → new ≡ now
+    → IsBeginning start new w
+begins start now new w left grown el same = (
+  grown.0,
+  left,
+  same ∙ grown.1,
+  sym (append_cancel_left start w (grown.0 ++ left) (el ∙ ap (λ (x : List ℕ). x ++ left) grown.1 ∙ append_assoc start grown.0 left)),
+)
+
 -- the end of a run whose outcome so far is o, with t yet to come
 pub run_ends : {U : Type 0} (r : Result U FinishRefused) (start now new w left : List ℕ) (o t : Result (List ℕ) FinishRefused)
-    → before start o ≡ before now t → start ++ w ≡ now ++ left → Finishes now new r t → RunsTo start new r o w
-run_ends (Ok u) start now new w left o t e el h = e ∙ h
-run_ends (Err NoMemory) start now new w left o t e el h = (left, ap (λ (x : List ℕ). x ++ left) h ∙ sym el)
-run_ends (Err BadDecrypt) start now new w left o t e el h =
-    (before_refused start o BadDecrypt (e ∙ ap (before now) h.0), (left, ap (λ (x : List ℕ). x ++ left) h.1 ∙ sym el))
-run_ends (Err (WrongFinalBlock n)) start now new w left o t e el h =
-    (before_refused start o (WrongFinalBlock n) (e ∙ ap (before now) h.0), (left, ap (λ (x : List ℕ). x ++ left) h.1 ∙ sym el))
-run_ends (Err (StreamEnd n)) start now new w left o t e el h =
-    (before_refused start o (StreamEnd n) (e ∙ ap (before now) h.0), (left, ap (λ (x : List ℕ). x ++ left) h.1 ∙ sym el))
+    → before start o ≡ before now t → start ++ w ≡ now ++ left → (given : List ℕ) × (now ≡ start ++ given) → Finishes now new r t
+    → RunsTo start new r o w
+run_ends (Ok u) start now new w left o t e el grown h = e ∙ h
+run_ends (Err NoMemory) start now new w left o t e el grown h = begins start now new w left grown el h
+run_ends (Err BadDecrypt) start now new w left o t e el grown h =
+    (before_refused start o BadDecrypt (e ∙ ap (before now) h.0), begins start now new w left grown el h.1)
+run_ends (Err (WrongFinalBlock n)) start now new w left o t e el grown h =
+    (before_refused start o (WrongFinalBlock n) (e ∙ ap (before now) h.0), begins start now new w left grown el h.1)
+run_ends (Err (StreamEnd n)) start now new w left o t e el grown h =
+    (before_refused start o (StreamEnd n) (e ∙ ap (before now) h.0), begins start now new w left grown el h.1)

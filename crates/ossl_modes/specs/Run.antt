@@ -22,9 +22,9 @@ Finishes old new (Ok _) o = before old o ≡ Ok new
 Finishes old new (Err NoMemory) o = new ≡ old
 Finishes old new (Err r) o = (o ≡ Err r) × (new ≡ old)
 
--- what stands in the vector begins with old, and ends as a beginning of the text w
+-- what stands in the vector is old, and after it what was given: a beginning of the text w
 abbrev pub IsBeginning : List ℕ → List ℕ → List ℕ → Type 0
-IsBeginning old new w = (rest : List ℕ) × (new ++ rest ≡ old ++ w)
+IsBeginning old new w = (given : List ℕ) × (rest : List ℕ) × (new ≡ old ++ given) × (given ++ rest ≡ w)
 
 -- a whole run: the text of the outcome o, or its refusal after a beginning of the equations w
 abbrev pub RunsTo : {U : Type 0} → List ℕ → List ℕ → Result U FinishRefused → Result (List ℕ) FinishRefused → List ℕ → Type 0

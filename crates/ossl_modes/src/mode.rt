@@ -79,6 +79,7 @@ impl<C: Block> Mode<C> {
         ensures empty { self.new.count ≡ 0 }
         ensures len { vec_len out.new ≡ vec_len out.old + length bytes.now }
         ensures capacity { vec_capacity out.old ≤ vec_capacity out.new }
+        ensures appends { (given : List ℕ) × (out.new.items ≡ out.old.items ++ given) }
         ensures text { (rest : List ℕ) → 0 < length rest → before out.old.items (outcome_of self.old (bytes.now ++ rest)) ≡ before out.new.items (outcome_of self.new rest) }
         ensures unchecked { (rest : List ℕ) → out.old.items ++ whole_blocks_of self.old (bytes.now ++ rest) ≡ out.new.items ++ whole_blocks_of self.new rest }
     {
@@ -98,6 +99,7 @@ impl<C: Block> Mode<C> {
         ensures empty { self.new.count ≡ 0 }
         ensures len { vec_len out.new ≡ vec_len out.old + 16 }
         ensures capacity { vec_capacity out.old ≤ vec_capacity out.new }
+        ensures appends { (given : List ℕ) × (out.new.items ≡ out.old.items ++ given) }
         ensures text { (rest : List ℕ) → 0 < length rest → before out.old.items (outcome_of self.old rest) ≡ before out.new.items (outcome_of self.new rest) }
         ensures unchecked { (rest : List ℕ) → out.old.items ++ whole_blocks_of self.old rest ≡ out.new.items ++ whole_blocks_of self.new rest }
     {
@@ -108,6 +110,8 @@ impl<C: Block> Mode<C> {
 
     /// Takes the next bytes of the text in, and appends the blocks that are known not to be the last.
     pub fn feed(&mut self, bytes: &[u8], out: &mut Vec<u8>) -> Result<(), AllocError>
+        // What stood in the vector before it stands there yet, and what it gave stands after that.
+        ensures appends { OnOk result ((given : List ℕ) × (out.new.items ≡ out.old.items ++ given)) }
         // Whatever bytes come yet: what was appended, and what the new state makes of them, is what the old state makes
         // of these bytes and them.
         ensures text { OnOk result ((rest : List ℕ) → before out.old.items (outcome_of self.old (bytes.now ++ rest)) ≡ before out.new.items (outcome_of self.new rest)) }
@@ -168,9 +172,7 @@ impl<C: Block> Mode<C> {
             None => Err(FinishRefused::BadDecrypt),
         }
     }
-}
 
-impl<C: Block + Drop> Mode<C> {
     /// The end of the text: appends what is left of it, or refuses and appends nothing. A refusal other than of memory
     /// is that of the standard over all bytes fed.
     pub fn finish(self, out: &mut Vec<u8>) -> Result<(), FinishRefused>
@@ -203,7 +205,7 @@ impl<C: Block + Drop> Mode<C> {
 
 /// A whole text in pieces, cut in any way: appends the mode's text of the pieces joined. Where the end is refused, what
 /// was appended is a beginning of the block equations over the whole blocks.
-pub fn run<C: Block + Drop>(
+pub fn run<C: Block>(
     cipher: C,
     kind: ModeKind,
     iv: [u8; 16],

@@ -43,7 +43,7 @@ pub fn aes_value<const NK: usize, const WORDS: usize>(
 
 // The end of the message's text in a mode.
 #[inline(always)]
-fn text_of<C: Block + Drop>(
+fn text_of<C: Block>(
     alloc: Global,
     cipher: C,
     kind: ModeKind,
@@ -93,7 +93,7 @@ fn decrypted<C: Block>(cipher: &C, first: [u8; 16], count: usize) -> [u8; 16]
 }
 
 #[inline(always)]
-fn code_of<C: Block + Drop>(cipher: C, piece: &[u8], length: usize) -> Result<[u8; 16], AllocError>
+fn code_of<C: Block>(cipher: C, piece: &[u8], length: usize) -> Result<[u8; 16], AllocError>
     requires { piece.now ≡ message PIECE }
     ensures { IfOk result (λ code. code ≡ cmac (C.enc cipher) (message length)) }
 {

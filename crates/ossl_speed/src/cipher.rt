@@ -22,11 +22,14 @@ pub trait Cipher: Drop {
 
     /// Appends text of the bytes. What is not given yet comes later.
     fn crypt(&mut self, bytes: &[u8], out: &mut Vec<u8>) -> Result<(), AllocError>
-        ensures { OnOk result ((rest : List ℕ) → out.old.items ++ text self.old (bytes.now ++ rest) ≡ out.new.items ++ text self.new rest) };
+        ensures text { OnOk result ((rest : List ℕ) → out.old.items ++ text self.old (bytes.now ++ rest) ≡ out.new.items ++ text self.new rest) }
+        ensures appends { OnOk result ((given : List ℕ) × (out.new.items ≡ out.old.items ++ given)) }
+        ensures err { OnErr result (out.new.items ≡ out.old.items) };
 
     /// Appends the text that is left.
     fn end(self, out: &mut Vec<u8>) -> Result<(), AllocError>
-        ensures { OnOk result (out.new.items ≡ out.old.items ++ text self []) };
+        ensures text { OnOk result (out.new.items ≡ out.old.items ++ text self []) }
+        ensures err { OnErr result (out.new.items ≡ out.old.items) };
 }
 
 impl Cipher for ChaCha {
@@ -55,7 +58,7 @@ impl Cipher for Rc4 {
     }
 }
 
-impl<C: Block + Drop> Cipher for Mode<C> {
+impl<C: Block> Cipher for Mode<C> {
     ghost use Rattle.ossl_speed.specs.Streams.{text_of_mode};
 
     ghost text = { λ mode bytes. text_of_mode mode bytes };

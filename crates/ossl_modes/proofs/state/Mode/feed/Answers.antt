@@ -2,7 +2,13 @@ use Rattle.std.proofs.Common.{ℕ, ◌-◌, ◌*◌, ◌/◌, ◌<◌, List, ◌
 use Rattle.ossl_modes.specs.Modes.{before}
 use Rattle.ossl_modes.specs.Run.{outcome_of, whole_blocks_of}
 use Rattle.ossl_aes.proofs.Lists.{split, length-rest}
+use Rattle.ossl_modes.proofs.Steps.{appended_twice}
 use Rattle.ossl_modes.proofs.state.Mode.feed.Goals as goal
+
+pub returns-clause-appends : goal.returns-clause-appends
+returns-clause-appends g c =
+    appended_twice _ _ _ (c.give_held.ensures.appends.0, c.give_held.ensures.appends.1 ∙ ap (λ (x : List ℕ). x ++ c.give_held.ensures.appends.0) c.reserve.ensures.items)
+    c.give.ensures.appends
 
 pub returns-clause-text : goal.returns-clause-text
 returns-clause-text g c = λ rest.

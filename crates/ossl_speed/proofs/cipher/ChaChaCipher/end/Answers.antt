@@ -3,5 +3,5 @@ use Rattle.std.proofs.lemmas.List.{append-nil}
 use Rattle.ossl_speed.proofs.Texts.{chacha-none}
 use Rattle.ossl_speed.proofs.cipher.ChaChaCipher.end.Goals as goal
 
-pub returns : goal.returns
-returns c = sym (ap (λ (t : List ℕ). c.args._out.now.items ++ t) (chacha-none c.args.self) ∙ append-nil c.args._out.now.items)
+pub returns-clause-text : goal.returns-clause-text
+returns-clause-text c = sym (ap (λ (t : List ℕ). c.args._out.now.items ++ t) (chacha-none c.args.self) ∙ append-nil c.args._out.now.items)

@@ -11,4 +11,4 @@ returns g c =
     sym {A = List ℕ} (last-last 64 c.args.self.now.out.items text)
     ∙ ap (λ (kept : List ℕ). last 64 (kept ++ text)) (sym c.keep_last.ensures)
     ∙ ap (last 64) (given rest))
-    c.crypt.ensures
+    c.crypt.ensures.text
