@@ -4,3 +4,6 @@ pub mod ResultRows
 pub mod BlockRows
 pub mod ModeLaws
 pub mod CodeLaws
+pub mod WorkLaws
+pub mod PieceLaws
+pub mod BeginLaws

@@ -7,7 +7,7 @@ use Rattle.ossl_modes.specs.declared.kinds.ModeKind.TheVariants.{Ecb, Cbc, Cfb, 
 use Rattle.ossl_modes.specs.Modes.{block_out, block_next, before, padded, blocks, checked, equations, outcome}
 
 module _ (e d : List ℕ → List ℕ) where
-  blocks-ecb : (decrypt : Bool) (n : ℕ) (v w bs : List ℕ) → blocks e d Ecb decrypt n v bs ≡ blocks e d Ecb decrypt n w bs
+  pub blocks-ecb : (decrypt : Bool) (n : ℕ) (v w bs : List ℕ) → blocks e d Ecb decrypt n v bs ≡ blocks e d Ecb decrypt n w bs
   unfolding blocks
   blocks-ecb decrypt zero v w bs = refl
   blocks-ecb false (suc n) v w bs = ap (λ rest. e (take 16 bs) ++ rest) (blocks-ecb false n v w (drop 16 bs))

@@ -1,6 +1,6 @@
 //! Whether an operation may begin.
 
-ghost use Rattle.std.specs.Prelude.{◌≡◌, ℕ, List, IfErr, IsTrue, length, not, find};
+ghost use Rattle.std.specs.Prelude.{◌≡◌, ℕ, List, IfErr, IsTrue, not, find};
 ghost use Rattle.ossl_op.specs.Begins.{begins, bytes_of, is_given, limit_passed};
 ghost use Rattle.ossl_op.specs.Laws.{may_end_with};
 ghost use Rattle.ossl_op.specs.Standard.{standard_result};
@@ -28,11 +28,11 @@ pub fn judge(code: Code, inner: Option<Code>, params: &Params) -> Result<(), Beg
     if !takes_inner(code, inner) {
         return Err(BeginRefused::WrongInner);
     }
-    let got = byte_count(&params.key);
+    let got = bytes_of(&params.key).len() as u64;
     if !takes_key(code, inner, got) {
         return Err(BeginRefused::KeyLength { got });
     }
-    let got = byte_count(&params.iv);
+    let got = bytes_of(&params.iv).len() as u64;
     if !takes_iv(code, got) {
         return Err(BeginRefused::IvLength { got });
     }
@@ -63,13 +63,13 @@ fn is_given(inner: Option<Code>, params: &Params, which: Param) -> bool
     }
 }
 
-// The bytes of a parameter, and 0 where it is absent.
-fn byte_count(given: &Option<Bytes>) -> u64
-    ensures { result ≡ length (bytes_of given.now) }
+// The bytes of a parameter, and none where it is absent.
+pub(crate) fn bytes_of(given: &Option<Bytes>) -> &[u8]
+    ensures { result.now ≡ bytes_of given.now }
 {
     match given {
-        Some(bytes) => bytes.as_slice().len() as u64,
-        None => 0,
+        Some(bytes) => bytes.as_slice(),
+        None => &[],
     }
 }
 

@@ -3,11 +3,18 @@
 //! The standards of the codes (FIPS 180-4, SP 800-38A, RFC 5869 and others); the order of checks is this project's. All work is constant.
 #![tactic(auto)]
 
+mod algorithm;
+mod at_end;
+mod begin;
+mod context;
+mod derived;
+mod in_pieces;
 mod judgement;
 mod needs;
 mod params;
 mod tables;
 
+pub use context::OpCtx;
 pub use judgement::judge;
 pub use needs::{is_directed, needed};
 pub use ossl_modes::FinishRefused;

@@ -2,10 +2,13 @@
 
 ghost use Rattle.std.specs.Prelude.{◌≡◌};
 ghost use Rattle.std.specs.Option.{option_and_then};
-ghost use Rattle.ossl_op.specs.Tables.{cbc_bits, hash_of, key_len, takes_inner, takes_iv, takes_key};
+ghost use Rattle.ossl_op.specs.Standard.{is_decrypt};
+ghost use Rattle.ossl_op.specs.Tables.{cbc_bits, hash_of, hkdf_mode, key_len, kind_of, takes_inner, takes_iv, takes_key};
 
-use ossl_codes::{AesMode, Bits, Code};
+use ossl_codes::{AesMode, Bits, Code, Direction, KdfMode};
 use ossl_digests::Hash;
+use ossl_hkdf::HkdfMode;
+use ossl_modes::ModeKind;
 
 // The hash that a code stands for, where it is a digest.
 pub(crate) fn hash_of(code: Code) -> Option<Hash>
@@ -34,7 +37,7 @@ pub(crate) fn inner_hash(inner: Option<Code>) -> Option<Hash>
 }
 
 // The key length of the cipher that CMAC runs on.
-fn inner_bits(inner: Option<Code>) -> Option<Bits>
+pub(crate) fn inner_bits(inner: Option<Code>) -> Option<Bits>
     ensures { result ≡ option_and_then cbc_bits inner }
 {
     match inner {
@@ -56,6 +59,40 @@ fn key_len(bits: Bits) -> u64
         Bits::B128 => 16,
         Bits::B192 => 24,
         Bits::B256 => 32,
+    }
+}
+
+// The mode of operation.
+pub(crate) fn kind_of(mode: AesMode) -> ModeKind
+    ensures { result ≡ kind_of mode }
+{
+    match mode {
+        AesMode::Ecb => ModeKind::Ecb,
+        AesMode::Cbc => ModeKind::Cbc,
+        AesMode::Cfb => ModeKind::Cfb,
+        AesMode::Ofb => ModeKind::Ofb,
+        AesMode::Ctr => ModeKind::Ctr,
+    }
+}
+
+// The direction as the modes take it.
+pub(crate) fn is_decrypt(direction: Direction) -> bool
+    ensures { result ≡ is_decrypt direction }
+{
+    match direction {
+        Direction::Encrypt => false,
+        Direction::Decrypt => true,
+    }
+}
+
+// Which of its steps HKDF takes.
+pub(crate) fn hkdf_mode(mode: KdfMode) -> HkdfMode
+    ensures { result ≡ hkdf_mode mode }
+{
+    match mode {
+        KdfMode::Both => HkdfMode::Both,
+        KdfMode::Extract => HkdfMode::Extract,
+        KdfMode::Expand => HkdfMode::Expand,
     }
 }
 
