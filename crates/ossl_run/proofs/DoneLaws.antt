@@ -12,18 +12,18 @@ use Rattle.ossl_calls.specs.declared.call.Reply.{Reply}
 use Rattle.ossl_calls.specs.Tokens.{entries_of}
 use Rattle.ossl_script.specs.declared.caller.Next.{Next}
 use Rattle.ossl_script.specs.declared.caller.Next.TheVariants as nexts
-use Rattle.ossl_script.specs.declared.command.Command.{Command}
-use Rattle.ossl_script.specs.declared.command.Line.{Line}
-use Rattle.ossl_script.specs.declared.command.Verb.{Verb}
-use Rattle.ossl_script.specs.declared.kind.LineKind.{LineKind}
-use Rattle.ossl_script.specs.declared.kind.LineKind.TheVariants as kinds
+use Rattle.ossl_commands.specs.declared.command.Command.{Command}
+use Rattle.ossl_commands.specs.declared.command.Line.{Line}
+use Rattle.ossl_commands.specs.declared.command.Verb.{Verb}
+use Rattle.ossl_commands.specs.declared.kind.LineKind.{LineKind}
+use Rattle.ossl_commands.specs.declared.kind.LineKind.TheVariants as kinds
 use Rattle.ossl_script.specs.Caller.{Follows, after_reply, call_in, lines_of, next_at, opening}
-use Rattle.ossl_script.specs.Counts.{callers_of}
+use Rattle.ossl_commands.specs.Counts.{callers_of}
 use Rattle.ossl_script.specs.Given.{Content, content_by}
-use Rattle.ossl_script.specs.Judging.{Fault, ◌>>=◌, command_in, commands_from, holds, judged, numbered}
-use Rattle.ossl_script.specs.Lines.{before_query, is_allowed, is_skipped, query_text, words_of}
-use Rattle.ossl_script.specs.Table.{verb_of}
-use Rattle.ossl_script.specs.Words.{caller_of, number_of, positive}
+use Rattle.ossl_commands.specs.Judging.{Fault, ◌>>=◌, command_in, commands_from, holds, judged, numbered}
+use Rattle.ossl_commands.specs.Lines.{before_query, is_allowed, is_skipped, query_text, words_of}
+use Rattle.ossl_commands.specs.Table.{verb_of}
+use Rattle.ossl_commands.specs.Words.{caller_of, number_of, positive}
 use Rattle.ossl_run.specs.declared.turns.Turn.{Turn}
 use Rattle.ossl_run.specs.Batched.{Batch, giving_back_of, next_of, replies_to}
 use Rattle.ossl_run.specs.Turns.{Drawn, EachCallerIsDone, ProgramIsApart, IsDone, IsInTurn, by_caller, by_text, callers_in, drawn, least, lesser, listed, next_turn, returning_calls, turn_at, turn_of}

@@ -16,7 +16,7 @@ use Rattle.ossl_calls.specs.History.{Fixed, IsRun, after_entry, state_from}
 use Rattle.ossl_calls.specs.State.{lib_at, opening_state}
 use Rattle.ossl_calls.specs.Step.{Answers, IsLoaded, MayRefuse, admits, after_activation, after_fallback, element_of, fetched_of, holder_of, loaded_reply}
 use Rattle.ossl_calls.specs.Tokens.{entries_of}
-use Rattle.ossl_script.specs.Counts.{contexts_of}
+use Rattle.ossl_commands.specs.Counts.{contexts_of}
 use Rattle.ossl_script.specs.declared.caller.Next.TheVariants as nexts
 use Rattle.ossl_run.specs.Batched.{Batch, next_of, replies_to}
 use Rattle.ossl_run.specs.Opening.{activations_of, closing_calls}

@@ -11,10 +11,10 @@ use Rattle.ossl_calls.specs.declared.call.Call.{Call}
 use Rattle.ossl_calls.specs.declared.call.Reply.{Reply}
 use Rattle.ossl_script.specs.declared.caller.LineResult.{LineResult}
 use Rattle.ossl_script.specs.declared.caller.Next.TheVariants as nexts
-use Rattle.ossl_script.specs.declared.command.Line.{Line}
-use Rattle.ossl_script.specs.declared.command.Command.{Command}
+use Rattle.ossl_commands.specs.declared.command.Line.{Line}
+use Rattle.ossl_commands.specs.declared.command.Command.{Command}
 use Rattle.ossl_script.specs.declared.held.Held.{Held}
-use Rattle.ossl_script.specs.declared.kind.LineKind.{LineKind}
+use Rattle.ossl_commands.specs.declared.kind.LineKind.{LineKind}
 use Rattle.ossl_script.specs.Bindings.{nothing_bound}
 use Rattle.ossl_script.specs.Caller.{Place, Standing, after_reply_at, goes_on, line_result, lines_of, next_at, opening, standing_of}
 use Rattle.ossl_script.specs.Caller.Place.{asking, ended}
@@ -23,8 +23,8 @@ use Rattle.ossl_script.specs.Course.{Course}
 use Rattle.ossl_script.specs.Course.Course.{ask, said}
 use Rattle.ossl_script.specs.Given.{Content, content_by}
 use Rattle.ossl_script.specs.Held.{held_after}
-use Rattle.ossl_script.specs.Judging.{Fault, commands_from, judged, numbered}
-use Rattle.ossl_script.specs.Lines.{is_skipped}
+use Rattle.ossl_commands.specs.Judging.{Fault, commands_from, judged, numbered}
+use Rattle.ossl_commands.specs.Lines.{is_skipped}
 use Rattle.ossl_script.proofs.HeldLaws.{goes_by_reply}
 use Rattle.ossl_run.specs.declared.turns.Turn.{Turn}
 use Rattle.ossl_run.specs.Batched.{Batch, replies_to}

@@ -17,10 +17,10 @@ use Rattle.ossl_calls.specs.History.{Fixed, IsLegal}
 use Rattle.ossl_conf.specs.View.{SettingsView}
 use Rattle.ossl_conf.specs.declared.kind.ConfKind.TheVariants.{Equals}
 use Rattle.ossl_conf.specs.declared.refusal.ConfRefused.TheVariants as refusals
-use Rattle.ossl_script.specs.declared.command.Line.{Line}
-use Rattle.ossl_script.specs.declared.kind.LineKind.TheVariants as kinds
-use Rattle.ossl_script.specs.declared.limit.Limit.TheVariants as limits
-use Rattle.ossl_script.specs.Judging.{Fault, commands_of}
+use Rattle.ossl_commands.specs.declared.command.Line.{Line}
+use Rattle.ossl_commands.specs.declared.kind.LineKind.TheVariants as kinds
+use Rattle.ossl_commands.specs.declared.limit.Limit.TheVariants as limits
+use Rattle.ossl_commands.specs.Judging.{Fault, commands_of}
 use Rattle.ossl_run.specs.declared.error_line.ErrorLine.TheVariants as lines
 use Rattle.ossl_run.specs.Batched.{Batch}
 use Rattle.ossl_run.specs.ErrorLine.{error_status, error_text}

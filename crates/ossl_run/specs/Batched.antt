@@ -6,7 +6,7 @@ use Rattle.ossl_calls.specs.declared.call.Reply.{Reply}
 use Rattle.ossl_calls.specs.Tokens.{entries_of}
 use Rattle.ossl_script.specs.declared.caller.LineResult.{LineResult}
 use Rattle.ossl_script.specs.declared.caller.Next.{Next}
-use Rattle.ossl_script.specs.declared.command.Line.{Line}
+use Rattle.ossl_commands.specs.declared.command.Line.{Line}
 use Rattle.ossl_script.specs.Caller as script
 use Rattle.ossl_run.specs.Ordered.{replies_of}
 

@@ -3,8 +3,8 @@ use Rattle.std.specs.Prelude.{ℕ, List, ◌++◌, codes}
 use Rattle.std.specs.Fmt.{decimal}
 use Rattle.ossl_conf.specs.declared.refusal.ConfRefused.TheVariants.{NoMemory}
 use Rattle.ossl_conf.specs.Refused.{refusal_text, shown}
-use Rattle.ossl_script.specs.Kind.{kind_word}
-use Rattle.ossl_script.specs.Limit.{limit_word}
+use Rattle.ossl_commands.specs.Kind.{kind_word}
+use Rattle.ossl_commands.specs.Limit.{limit_word}
 use Rattle.ossl_run.specs.declared.error_line.ErrorLine.{ErrorLine}
 use Rattle.ossl_run.specs.declared.error_line.ErrorLine.TheVariants.{Usage, Read, Configuration, Batch, Limit, Provider}
 

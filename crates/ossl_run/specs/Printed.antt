@@ -17,7 +17,7 @@ use Rattle.ossl_calls.specs.Text.{entry_text}
 use Rattle.ossl_calls.specs.Tokens.{entries_of}
 use Rattle.ossl_run.specs.declared.line.Line.{Line}
 use Rattle.ossl_script.specs.declared.caller.LineResult.{LineResult}
-use Rattle.ossl_script.specs.Counts.{callers_of}
+use Rattle.ossl_commands.specs.Counts.{callers_of}
 use Rattle.ossl_run.specs.Batched.{Batch, replies_to, results_of}
 use Rattle.ossl_run.specs.Ordered.{replies_of}
 use Rattle.ossl_run.specs.Script.{result_text}

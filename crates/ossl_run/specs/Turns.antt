@@ -12,8 +12,8 @@ use Rattle.ossl_conf.specs.View.{SettingsView}
 use Rattle.ossl_script.specs.declared.caller.Next.{Next}
 use Rattle.ossl_script.specs.declared.caller.Next.TheVariants as nexts
 use Rattle.ossl_script.specs.Caller.{Follows}
-use Rattle.ossl_script.specs.Counts.{callers_of, contexts_of}
-use Rattle.ossl_script.specs.Judging.{commands_of}
+use Rattle.ossl_commands.specs.Counts.{callers_of, contexts_of}
+use Rattle.ossl_commands.specs.Judging.{commands_of}
 use Rattle.ossl_run.specs.declared.turns.Turn.{Turn}
 use Rattle.ossl_run.specs.Batched.{Batch, giving_back_of, next_of, replies_to}
 use Rattle.ossl_run.specs.Opening.{IsClosed, IsEnded, IsOpened}

@@ -16,11 +16,11 @@ use Rattle.ossl_calls.specs.declared.call.Reply.TheVariants as replies
 use Rattle.ossl_calls.specs.Tokens.{names_context}
 use Rattle.ossl_script.specs.declared.caller.LineResult.{LineResult}
 use Rattle.ossl_script.specs.declared.caller.Next.TheVariants as nexts
-use Rattle.ossl_script.specs.declared.command.Argument.{Argument}
-use Rattle.ossl_script.specs.declared.command.Argument.TheVariants.{Lib}
-use Rattle.ossl_script.specs.declared.command.Command.{Command}
-use Rattle.ossl_script.specs.declared.command.Command.TheVariants.{Load, Unload, Default, Fetch, UpRef, Free, Open, Feed, Finish, Close, CloseLib, Perform}
-use Rattle.ossl_script.specs.declared.command.Line.{Line}
+use Rattle.ossl_commands.specs.declared.command.Argument.{Argument}
+use Rattle.ossl_commands.specs.declared.command.Argument.TheVariants.{Lib}
+use Rattle.ossl_commands.specs.declared.command.Command.{Command}
+use Rattle.ossl_commands.specs.declared.command.Command.TheVariants.{Load, Unload, Default, Fetch, UpRef, Free, Open, Feed, Finish, Close, CloseLib, Perform}
+use Rattle.ossl_commands.specs.declared.command.Line.{Line}
 use Rattle.ossl_script.specs.declared.held.Held.{Held}
 use Rattle.ossl_script.specs.declared.outcome.Outcome.{Outcome}
 use Rattle.ossl_script.specs.declared.outcome.Outcome.TheVariants as outcomes
@@ -29,7 +29,7 @@ use Rattle.ossl_script.specs.Bindings.Binding.{activation, method, running, fini
 use Rattle.ossl_script.specs.Caller.{Place, Standing, after_reply, after_reply_at, goes_on, line_result, lines_of, next_at, opening, standing_of}
 use Rattle.ossl_script.specs.Caller.Place.{asking, ended}
 use Rattle.ossl_script.specs.Commands.{after_load, after_fetch, after_up_ref, after_open, course_of}
-use Rattle.ossl_script.specs.Counts.{lib_in, libs_in}
+use Rattle.ossl_commands.specs.Counts.{lib_in, libs_in}
 use Rattle.ossl_script.specs.Course.{Course, by_query, reads, by_activation, uses_activation, by_method, uses_method, uses_inner, by_running, uses_running, by_context, uses_context, binds}
 use Rattle.ossl_script.specs.Course.Course.{ask, said}
 use Rattle.ossl_script.specs.Given.{Content, Options, content_by, default_options, options_of, fed_by, with_argument}

@@ -12,7 +12,7 @@ use Rattle.ossl_calls.specs.declared.call.Reply.TheVariants.{Loaded, Fetched, Ma
 use Rattle.ossl_calls.specs.Tokens.{Token, gains_by, gives_up_by, owns, owns_after, owns_after_entry}
 use Rattle.ossl_calls.specs.Tokens.Token.{activation_token, method_token, context_token}
 use Rattle.ossl_script.specs.declared.caller.LineResult.{LineResult}
-use Rattle.ossl_script.specs.declared.command.Line.{Line}
+use Rattle.ossl_commands.specs.declared.command.Line.{Line}
 use Rattle.ossl_script.specs.declared.held.Held.{Held}
 use Rattle.ossl_script.specs.declared.held.TokenKind.{TokenKind}
 use Rattle.ossl_script.specs.declared.held.TokenKind.TheVariants.{Activation, Method, Context}

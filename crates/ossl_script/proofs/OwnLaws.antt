@@ -8,13 +8,13 @@ use Rattle.std.proofs.lemmas.Slice.Eq.{bytes_eq-Decides}
 use Rattle.ossl_codes.specs.declared.code.Operation.{Operation}
 use Rattle.ossl_calls.specs.declared.call.Reply.{Reply}
 use Rattle.ossl_script.specs.declared.caller.LineResult.{LineResult}
-use Rattle.ossl_script.specs.declared.command.Argument.{Argument}
-use Rattle.ossl_script.specs.declared.command.Argument.TheVariants.{Piece, Key, Iv, Salt, Info}
-use Rattle.ossl_script.specs.declared.command.Command.{Command}
-use Rattle.ossl_script.specs.declared.command.Command.TheVariants.{Open, Feed, Perform}
-use Rattle.ossl_script.specs.declared.command.Data.{Data}
-use Rattle.ossl_script.specs.declared.command.Data.TheVariants.{Bytes, Copies, File}
-use Rattle.ossl_script.specs.declared.command.Line.{Line}
+use Rattle.ossl_commands.specs.declared.command.Argument.{Argument}
+use Rattle.ossl_commands.specs.declared.command.Argument.TheVariants.{Piece, Key, Iv, Salt, Info}
+use Rattle.ossl_commands.specs.declared.command.Command.{Command}
+use Rattle.ossl_commands.specs.declared.command.Command.TheVariants.{Open, Feed, Perform}
+use Rattle.ossl_commands.specs.declared.command.Data.{Data}
+use Rattle.ossl_commands.specs.declared.command.Data.TheVariants.{Bytes, Copies, File}
+use Rattle.ossl_commands.specs.declared.command.Line.{Line}
 use Rattle.ossl_script.specs.declared.held.Held.{Held}
 use Rattle.ossl_script.specs.declared.outcome.Outcome.TheVariants.{Done}
 use Rattle.ossl_script.specs.Bindings.{Bindings, bind, nothing_bound}
@@ -22,7 +22,7 @@ use Rattle.ossl_script.specs.Bindings.Binding.{running}
 use Rattle.ossl_script.specs.Caller.{Place, Standing, after_reply, after_reply_at, goes_on, line_result, lines_of, next_at, opening, stands, standing_of}
 use Rattle.ossl_script.specs.Caller.Place.{asking, ended}
 use Rattle.ossl_script.specs.Commands.{course_of, opened}
-use Rattle.ossl_script.specs.Counts.{arguments_in, data_in, distinct, file_in, files_of}
+use Rattle.ossl_commands.specs.Counts.{arguments_in, data_in, distinct, file_in, files_of}
 use Rattle.ossl_script.specs.Course.{Course, reads, uses_method, uses_inner, uses_running, binds}
 use Rattle.ossl_script.specs.Course.Course.{ask, said}
 use Rattle.ossl_script.specs.Given.{Content, Options, content_by, data_bytes, default_options, fed_by, options_of, piece_bytes, with_argument}

@@ -22,9 +22,9 @@ use Rattle.ossl_calls.specs.Tokens.{Token, gives_up_by, owns, owns_named}
 use Rattle.ossl_calls.specs.Tokens.Token.{activation_token, method_token, context_token}
 use Rattle.ossl_script.specs.declared.caller.LineResult.{LineResult}
 use Rattle.ossl_script.specs.declared.caller.Next.TheVariants as nexts
-use Rattle.ossl_script.specs.declared.command.Command.{Command}
-use Rattle.ossl_script.specs.declared.command.Command.TheVariants.{Load, Unload, Default, Fetch, UpRef, Free, Open, Feed, Finish, Close, CloseLib, Perform}
-use Rattle.ossl_script.specs.declared.command.Line.{Line}
+use Rattle.ossl_commands.specs.declared.command.Command.{Command}
+use Rattle.ossl_commands.specs.declared.command.Command.TheVariants.{Load, Unload, Default, Fetch, UpRef, Free, Open, Feed, Finish, Close, CloseLib, Perform}
+use Rattle.ossl_commands.specs.declared.command.Line.{Line}
 use Rattle.ossl_script.specs.declared.held.Held.{Held}
 use Rattle.ossl_script.specs.declared.held.TokenKind.{TokenKind}
 use Rattle.ossl_script.specs.declared.held.TokenKind.TheVariants as kinds

@@ -13,9 +13,9 @@ use Rattle.ossl_calls.specs.declared.call.Call.TheVariants as calls
 use Rattle.ossl_calls.specs.declared.call.Reply.{Reply}
 use Rattle.ossl_calls.specs.declared.call.Reply.TheVariants as replies
 use Rattle.ossl_script.specs.declared.caller.LineResult.{LineResult}
-use Rattle.ossl_script.specs.declared.command.Command.{Command}
-use Rattle.ossl_script.specs.declared.command.Command.TheVariants.{Load, Unload, Default, Fetch, UpRef, Free, Open, Feed, Finish, Close, CloseLib, Perform}
-use Rattle.ossl_script.specs.declared.command.Line.{Line}
+use Rattle.ossl_commands.specs.declared.command.Command.{Command}
+use Rattle.ossl_commands.specs.declared.command.Command.TheVariants.{Load, Unload, Default, Fetch, UpRef, Free, Open, Feed, Finish, Close, CloseLib, Perform}
+use Rattle.ossl_commands.specs.declared.command.Line.{Line}
 use Rattle.ossl_script.specs.declared.outcome.Outcome.{Outcome}
 use Rattle.ossl_script.specs.declared.outcome.Outcome.TheVariants as outcomes
 use Rattle.ossl_script.specs.Bindings.{Binding, Bindings, Method, Operating, bind, unbind, nothing_bound}

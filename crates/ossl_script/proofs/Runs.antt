@@ -10,7 +10,7 @@ use Rattle.ossl_calls.specs.declared.call.Reply.{Reply}
 use Rattle.ossl_script.specs.declared.caller.LineResult.{LineResult}
 use Rattle.ossl_script.specs.declared.caller.Next.{Next}
 use Rattle.ossl_script.specs.declared.caller.Next.TheVariants as nexts
-use Rattle.ossl_script.specs.Judging.{Fault, ◌>>=◌, commands_of}
+use Rattle.ossl_commands.specs.Judging.{Fault, ◌>>=◌, commands_of}
 use Rattle.ossl_script.specs.Caller.{Standing, after_reply, opening, lines_of, line_result, next_at, giving_back, results_of}
 use Rattle.ossl_script.specs.Given.{Content, content_by, default_options}
 use Rattle.ossl_script.specs.Outcome.{finished_outcome, performed_outcome}

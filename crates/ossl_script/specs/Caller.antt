@@ -7,7 +7,7 @@ use Rattle.ossl_calls.specs.declared.call.Reply.{Reply}
 use Rattle.ossl_script.specs.declared.caller.LineResult.{LineResult}
 use Rattle.ossl_script.specs.declared.caller.Next.{Next}
 use Rattle.ossl_script.specs.declared.caller.Next.TheVariants as nexts
-use Rattle.ossl_script.specs.declared.command.Line.{Line}
+use Rattle.ossl_commands.specs.declared.command.Line.{Line}
 use Rattle.ossl_script.specs.declared.held.Held.{Held}
 use Rattle.ossl_script.specs.declared.outcome.Outcome.{Outcome}
 use Rattle.ossl_script.specs.Bindings.{nothing_bound}

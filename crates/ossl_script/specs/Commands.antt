@@ -5,8 +5,8 @@ use Rattle.ossl_op.specs.Standard.{standard_result}
 use Rattle.ossl_calls.specs.declared.call.Call.TheVariants as calls
 use Rattle.ossl_calls.specs.declared.call.Reply.{Reply}
 use Rattle.ossl_calls.specs.declared.call.Reply.TheVariants as replies
-use Rattle.ossl_script.specs.declared.command.Command.{Command}
-use Rattle.ossl_script.specs.declared.command.Command.TheVariants.{Load, Unload, Default, Fetch, UpRef, Free, Open, Feed, Finish, Close, CloseLib, Perform}
+use Rattle.ossl_commands.specs.declared.command.Command.{Command}
+use Rattle.ossl_commands.specs.declared.command.Command.TheVariants.{Load, Unload, Default, Fetch, UpRef, Free, Open, Feed, Finish, Close, CloseLib, Perform}
 use Rattle.ossl_script.specs.declared.outcome.Outcome.TheVariants as outcomes
 use Rattle.ossl_script.specs.Bindings.{Bindings, Method, Operating, bind, unbind}
 use Rattle.ossl_script.specs.Bindings.Binding.{activation, method, running, finished}

@@ -1,30 +1,13 @@
 -- What the words behind the fixed ones give a command: the bytes of its data, and its options with their defaults.
-use Rattle.std.specs.Prelude.{ℕ, true, Option, Some, None, List, [], fold, flat_map, replicate}
+use Rattle.std.specs.Prelude.{ℕ, true, Option, Some, None, List, [], fold, flat_map}
 use Rattle.ossl_codes.specs.declared.code.Operation.{Operation}
 use Rattle.ossl_codes.specs.declared.code.Operation.TheVariants as operations
 use Rattle.ossl_codes.specs.declared.param.Direction.TheVariants.{Encrypt}
 use Rattle.ossl_codes.specs.declared.param.KdfMode.TheVariants.{Both}
 use Rattle.ossl_op.specs.declared.params.Params.{Params}
-use Rattle.ossl_script.specs.declared.command.Argument.{Argument}
-use Rattle.ossl_script.specs.declared.command.Argument.TheVariants.{Piece, Retain, Lib, Digest, Cipher, Inner, Key, Iv, Direction as Way, Pad, Salt, Info, Mode, Len}
-use Rattle.ossl_script.specs.declared.command.Data.{Data}
-use Rattle.ossl_script.specs.declared.command.Data.TheVariants.{Bytes, Copies, File}
-use Rattle.ossl_script.specs.declared.command.Line.{Line}
-use Rattle.ossl_script.specs.Counts.{files_of, for_file}
-
--- what the files hold, by their names
-abbrev pub Content : Type 0
-Content = List ℕ → List ℕ
-
--- the contents of the files that a batch names, in the order of their first naming
-abbrev pub content_by : List Line → List (List ℕ) → Content
-content_by lines contents = for_file [] (files_of lines) contents
-
--- the bytes that data stands for
-abbrev pub data_bytes : Content → Data → List ℕ
-data_bytes content (Bytes bytes) = bytes
-data_bytes content (Copies count byte) = replicate count byte
-data_bytes content (File name) = content name
+use Rattle.ossl_commands.specs.declared.command.Argument.{Argument}
+use Rattle.ossl_commands.specs.declared.command.Argument.TheVariants.{Piece, Retain, Lib, Digest, Cipher, Inner, Key, Iv, Direction as Way, Pad, Salt, Info, Mode, Len}
+pub use Rattle.ossl_commands.specs.Contents.{Content, content_by, data_bytes}
 
 abbrev pub piece_bytes : Content → Argument → List ℕ
 piece_bytes content (Piece given) = data_bytes content given

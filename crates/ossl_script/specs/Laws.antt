@@ -9,10 +9,10 @@ use Rattle.ossl_calls.specs.History.{Fixed, IsAllowed, IsLegal}
 use Rattle.ossl_calls.specs.Tokens.{Token, names_context, owns, owns_named, entries_of}
 use Rattle.ossl_script.specs.declared.caller.Next.{Next}
 use Rattle.ossl_script.specs.declared.caller.Next.TheVariants as nexts
-use Rattle.ossl_script.specs.declared.command.Line.{Line}
+use Rattle.ossl_commands.specs.declared.command.Line.{Line}
 use Rattle.ossl_script.specs.declared.held.Held.{Held}
 use Rattle.ossl_script.specs.Caller.{Follows, after_reply, giving_back, lines_of, next_call, results_of, standing_of}
-use Rattle.ossl_script.specs.Counts.{contexts_of, files_of}
+use Rattle.ossl_commands.specs.Counts.{contexts_of, files_of}
 use Rattle.ossl_script.specs.Given.{content_by}
 use Rattle.ossl_script.specs.Held.{handed_out, is_held}
 

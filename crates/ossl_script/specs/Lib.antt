@@ -1,12 +1,10 @@
 -- What the contracts of the crate cite.
-pub mod Kind
-pub mod Limit
-pub mod Lines
-pub mod Words
-pub mod Table
-pub mod Judging
-pub mod Counts
-pub mod Fits
+pub use Rattle.ossl_commands.specs.Kind
+pub use Rattle.ossl_commands.specs.Limit
+pub use Rattle.ossl_commands.specs.Judging
+pub use Rattle.ossl_commands.specs.Counts
+pub use Rattle.ossl_commands.specs.Fits
+pub use Rattle.ossl_commands.specs.Contents
 pub mod Given
 pub mod Bindings
 pub mod Outcome

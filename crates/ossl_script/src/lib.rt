@@ -1,26 +1,16 @@
-//! The language of batches: the commands that a text says, and how much it names and declares.
-//! A text means exactly what the tables of `specs/` say, and a faulty line has the first kind of fault that applies; the language is this project's own.
-//! Judging a word and reading a number grow with their own bytes.
+//! What a caller does with its lines of a batch: its calls, what it holds, and what is printed of its lines.
+//! Calls and results follow the tables of `specs/` from the replies alone; the language is this project's own.
+//! A token that is handed out or given back is told in a constant number of steps.
 #![tactic(auto)]
 
 mod caller;
-mod command;
-mod data;
 mod held;
-mod kind;
-mod limit;
 mod outcome;
-mod table;
-mod word;
 
 pub use caller::{LineResult, Next};
-pub use command::{Argument, Arguments, Command, Data, Line, Verb};
 pub use held::{Held, TokenKind};
-pub use kind::{LineKind, ScriptRefused};
-pub use limit::Limit;
+pub use ossl_commands::{Argument, Arguments, Command, Data, Limit, Line, LineKind, ScriptRefused};
 pub use outcome::Outcome;
-pub use table::operation;
-pub use word::{caller_number, is_name, number};
 
 #[cfg(test)]
 mod tests;

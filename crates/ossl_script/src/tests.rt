@@ -1,35 +1,8 @@
-use crate::{
-    Command, Data, Held, Limit, Line, LineKind, Next, Outcome, TokenKind, Verb, caller_number,
-    is_name, number, operation,
-};
+use crate::{Held, Next, Outcome, TokenKind};
 use ossl_base::text::{Bytes, Text};
 use ossl_calls::{Call, Reply};
-use ossl_codes::Operation;
 use ossl_op::{BeginRefused, FinishRefused};
 use std::test::Fail;
-
-#[test]
-fn words_are_told_by_kind(rt: HostRuntime) {
-    assert!(rt; is_name(b"M_1"));
-    assert_eq!(rt; number(b"999999999"), Some(999_999_999));
-    assert_eq!(rt; caller_number(b"16"), Some(16));
-    assert_eq!(rt; Verb::of(b"closelib"), Some(Verb::CloseLib));
-    assert_eq!(rt; operation(b"kdf"), Some(Operation::Kdf));
-    assert_eq!(rt; LineKind::Arguments.word(), "arguments");
-    assert_eq!(rt; Limit::Callers.word(), "callers");
-    assert_eq!(rt; Limit::Callers.most(), 16);
-}
-
-// Each form of data, and a word of none.
-#[test]
-fn data_is_read_from_a_word(rt: HostRuntime) -> Result<(), Fail> {
-    let alloc = rt.alloc();
-    for word in ["hex:00fF", "text:a=b:c", "rep:131:aA", "file:abc.txt"] {
-        assert!(rt; Data::of(alloc, word.as_bytes())?.is_some(), "{word}");
-    }
-    assert!(rt; Data::of(alloc, b"hex:0")?.is_none());
-    Ok(())
-}
 
 // Each sort of result once, in its printed form.
 #[test]
@@ -71,35 +44,5 @@ fn a_token_is_handed_out_and_given_back(rt: HostRuntime) -> Result<(), Fail> {
     };
     assert!(rt; matches!(next.call(), Some(Call::UpRef { handle: 2 })));
     assert!(rt; Next::End.call().is_none());
-    Ok(())
-}
-
-#[test]
-fn a_line_is_its_callers(rt: HostRuntime) {
-    let line = Line {
-        number: 1,
-        caller: 3,
-        command: Command::CloseLib { lib: 0 },
-    };
-    assert!(rt; line.is_of(3));
-    assert!(rt; !line.is_of(1));
-}
-
-// A file is looked up by its name; one that is not among the files has nothing.
-#[test]
-fn data_is_appended(rt: HostRuntime) -> Result<(), Fail> {
-    let alloc = rt.alloc();
-    let mut files = Vec::new(alloc);
-    files.push(Text::of(Vec::from_slice(alloc, b"a")?))?;
-    files.push(Text::of(Vec::from_slice(alloc, b"b")?))?;
-    let mut contents = Vec::new(alloc);
-    contents.push(Bytes::of(Vec::from_slice(alloc, b"first")?))?;
-    contents.push(Bytes::of(Vec::from_slice(alloc, b"second")?))?;
-    let mut out = Vec::new(alloc);
-    for word in ["file:b", "rep:3:2e", "text:x", "file:c"] {
-        let data = Data::of(alloc, word.as_bytes())?.ok_or("no data")?;
-        data.put(alloc, &mut out, files.as_slice(), contents.as_slice())?;
-    }
-    assert_eq!(rt; out.as_slice(), b"second...x".as_slice());
     Ok(())
 }

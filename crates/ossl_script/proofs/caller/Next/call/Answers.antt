@@ -1,5 +1,6 @@
 use Rattle.ossl_script.proofs.AllowedLaws.{calls_are_allowed}
 use Rattle.ossl_script.proofs.ContextLaws.{calls_name_contexts}
+use Rattle.ossl_script.proofs.OwnLaws.{own_lines_alone}
 use Rattle.ossl_script.proofs.OwnedLaws.{calls_are_owned}
 use Rattle.ossl_script.proofs.caller.Next.call.Goals as goal
 
@@ -20,3 +21,9 @@ returns-in-Call-clause-allowed c = calls_are_allowed
 
 pub returns-in-End-clause-allowed : goal.returns-in-End-clause-allowed
 returns-in-End-clause-allowed c = calls_are_allowed
+
+pub returns-in-Call-clause-alone : goal.returns-in-Call-clause-alone
+returns-in-Call-clause-alone c = own_lines_alone
+
+pub returns-in-End-clause-alone : goal.returns-in-End-clause-alone
+returns-in-End-clause-alone c = own_lines_alone

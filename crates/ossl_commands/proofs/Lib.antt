@@ -1,0 +1,4 @@
+pub mod WorkedText
+pub mod WorkedCommands
+pub mod WorkedFaults
+pub mod WorkedLimits

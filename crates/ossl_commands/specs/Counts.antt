@@ -1,0 +1,73 @@
+-- How much a batch names: its lines, callers, library contexts and files.
+use Rattle.std.specs.Prelude.{ℕ, ◌+◌, max, not, Option, Some, None, List, [], ◌∷◌, length, map, fold, filter, filter_map, flat_map, zip, unwrap_or, option_and_then}
+use Rattle.std.specs.Str.{bytes_eq}
+use Rattle.std.specs.Str.Lines.{lines}
+use Rattle.ossl_commands.specs.declared.command.Argument.{Argument}
+use Rattle.ossl_commands.specs.declared.command.Argument.TheVariants.{Piece, Lib, Key, Iv, Salt, Info}
+use Rattle.ossl_commands.specs.declared.command.Command.{Command}
+use Rattle.ossl_commands.specs.declared.command.Command.TheVariants.{Load, Default, Fetch, Open, Feed, CloseLib, Perform}
+use Rattle.ossl_commands.specs.declared.command.Data.{Data}
+use Rattle.ossl_commands.specs.declared.command.Data.TheVariants.{File}
+use Rattle.ossl_commands.specs.declared.command.Line.{Line}
+use Rattle.ossl_commands.specs.Words.{looked_up}
+
+-- the greatest of these numbers, 0 where there are none
+abbrev pub greatest : List ℕ → ℕ
+greatest numbers = fold max 0 numbers
+
+-- all lines of a text, skipped ones too
+abbrev pub line_count : List ℕ → ℕ
+line_count text = length (lines text)
+
+-- the greatest caller that is named, 0 where there is no command
+abbrev pub callers_of : List Line → ℕ
+callers_of commands = greatest (map (λ line. line.caller) commands)
+
+-- the words of a command behind its fixed ones
+abbrev pub arguments_in : Command → List Argument
+arguments_in (Open used bound arguments) = arguments
+arguments_in (Feed used arguments) = arguments
+arguments_in (Perform operation algorithm arguments query) = arguments
+arguments_in command = []
+
+abbrev pub lib_in : Argument → Option ℕ
+lib_in (Lib n) = Some n
+lib_in argument = None
+
+-- the library contexts that a command names
+abbrev pub libs_in : Command → List ℕ
+libs_in (Load n provider bound retain) = n ∷ []
+libs_in (Default n query) = n ∷ []
+libs_in (Fetch n operation algorithm bound query) = n ∷ []
+libs_in (CloseLib n) = n ∷ []
+libs_in command = filter_map lib_in (arguments_in command)
+
+-- 1 plus the greatest library context that is named, at least 1
+abbrev pub contexts_of : List Line → ℕ
+contexts_of commands = 1 + greatest (flat_map (λ line. libs_in line.command) commands)
+
+-- the data that an argument gives
+abbrev pub data_in : Argument → Option Data
+data_in (Piece given) = Some given
+data_in (Key given) = Some given
+data_in (Iv given) = Some given
+data_in (Salt given) = Some given
+data_in (Info given) = Some given
+data_in argument = None
+
+abbrev pub file_in : Data → Option (List ℕ)
+file_in (File name) = Some name
+file_in given = None
+
+-- each text once, at its first place
+abbrev pub distinct : List (List ℕ) → List (List ℕ)
+distinct [] = []
+distinct (text ∷ texts) = text ∷ filter (λ other. not (bytes_eq text other)) (distinct texts)
+
+-- the files that a batch names, distinct, in the order of their first naming; options and data count alike, from the left
+abbrev pub files_of : List Line → List (List ℕ)
+files_of commands = distinct (flat_map (λ line. filter_map (λ argument. option_and_then file_in (data_in argument)) (arguments_in line.command)) commands)
+
+-- what a list has for a file, in the order in which files are named
+abbrev pub for_file : {A : Type 0} → A → List (List ℕ) → List A → List ℕ → A
+for_file other files values name = unwrap_or (looked_up (zip files values) name) other

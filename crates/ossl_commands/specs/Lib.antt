@@ -1,0 +1,10 @@
+-- What the contracts of the crate cite.
+pub mod Kind
+pub mod Limit
+pub mod Lines
+pub mod Words
+pub mod Table
+pub mod Judging
+pub mod Counts
+pub mod Fits
+pub mod Contents

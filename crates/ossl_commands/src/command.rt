@@ -1,0 +1,174 @@
+//! What a line of a batch says.
+
+use ossl_base::text::{Bytes, Text};
+use ossl_codes::{Direction, KdfMode, Operation};
+use std::marker::Model;
+
+/// The first word of a command.
+#[derive(Clone, Copy, Debug, PartialEq, Eq)]
+pub enum Verb {
+    Load,
+    Unload,
+    Default,
+    Fetch,
+    UpRef,
+    Free,
+    Open,
+    Feed,
+    Finish,
+    Close,
+    CloseLib,
+    Dgst,
+    Mac,
+    Enc,
+    Kdf,
+}
+
+/// Bytes as a batch gives them.
+#[derive(Drop)]
+pub enum Data {
+    /// `hex:` and digits, or `text:` and the bytes themselves.
+    Bytes(Bytes),
+    /// `rep:N:HH`: so many times this byte.
+    Copies { count: u64, byte: u8 },
+    /// `file:NAME`: what the file of this name holds.
+    File(Text),
+}
+
+/// A word behind the fixed words of a command.
+#[derive(Drop)]
+pub enum Argument {
+    /// A piece of the data that the command feeds.
+    Piece(Data),
+    /// `retain`
+    Retain,
+    /// `lib=`, the number of a library context.
+    Lib(u64),
+    /// `digest=`, the name of an inner digest.
+    Digest(Text),
+    /// `cipher=`, the name of an inner cipher.
+    Cipher(Text),
+    /// `inner=`, the name that a method is bound to.
+    Inner(Text),
+    /// `key=`
+    Key(Data),
+    /// `iv=`
+    Iv(Data),
+    /// `dir=`
+    Direction(Direction),
+    /// `pad=`
+    Pad(bool),
+    /// `salt=`
+    Salt(Data),
+    /// `info=`
+    Info(Data),
+    /// `mode=`
+    Mode(KdfMode),
+    /// `len=`, a number of bytes.
+    Len(u64),
+}
+
+/// The words behind the fixed words of a command, from the left; each option stands at most once.
+#[derive(Drop)]
+pub struct Arguments {
+    arguments: Vec<Argument>,
+}
+
+impl Model for Arguments {
+    ghost use Rattle.std.specs.Prelude.{List};
+    ghost use Rattle.ossl_commands.specs.declared.command.Argument.{Argument};
+
+    ghost Value = { List Argument };
+
+    ghost view = { λ a. a.arguments.items };
+}
+
+/// A command. A name is one that the caller binds to a token; `lib` is the number of a library context; a query is the
+/// text behind `:`, which is read when the command runs, and empty where there is none.
+#[derive(Drop)]
+pub enum Command {
+    /// Loads a provider and binds the activation; with `retain` the fallback stays armed.
+    Load {
+        lib: u64,
+        provider: Text,
+        name: Text,
+        retain: bool,
+    },
+    /// Gives an activation back.
+    Unload {
+        name: Text,
+    },
+    /// Sets the default query.
+    Default {
+        lib: u64,
+        query: Text,
+    },
+    /// Fetches a method and binds it.
+    Fetch {
+        lib: u64,
+        operation: Operation,
+        algorithm: Text,
+        name: Text,
+        query: Text,
+    },
+    /// Binds a second method of the same provider and code.
+    UpRef {
+        method: Text,
+        name: Text,
+    },
+    /// Gives a method back.
+    Free {
+        name: Text,
+    },
+    /// Makes an operation context of a method, and binds it.
+    Open {
+        method: Text,
+        name: Text,
+        arguments: Arguments,
+    },
+    /// Feeds pieces of data to an operation context.
+    Feed {
+        name: Text,
+        arguments: Arguments,
+    },
+    /// Finishes an operation, and prints all its bytes.
+    Finish {
+        name: Text,
+    },
+    /// Gives an operation context back.
+    Close {
+        name: Text,
+    },
+    /// Closes a library context.
+    CloseLib {
+        lib: u64,
+    },
+    /// A whole operation, from the fetch to its bytes: `dgst`, `mac`, `enc` or `kdf`.
+    Perform {
+        operation: Operation,
+        algorithm: Text,
+        arguments: Arguments,
+        query: Text,
+    },
+}
+
+/// A line that is a command.
+#[derive(Drop)]
+pub struct Line {
+    /// Its number in the text, from 1; all lines are counted.
+    pub number: u64,
+    /// The caller that it belongs to, from 1.
+    pub caller: u64,
+    pub command: Command,
+}
+
+impl Line {
+    ghost use Rattle.std.specs.Prelude.{◌≡◌, nat_eq};
+
+    /// Whether the line is this caller's.
+    pub fn is_of(&self, caller: u64) -> bool
+        ensures own { result ≡ nat_eq self.now.caller caller }
+    {
+        self.caller == caller
+    }
+}
