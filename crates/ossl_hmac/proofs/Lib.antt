@@ -1,2 +1,3 @@
+pub mod Derivation
 pub mod Keys
 pub mod Vectors

@@ -84,6 +84,20 @@ impl Hmac {
         outer.finish()
     }
 
+    /// The code of all bytes fed and a text, which leaves the HMAC as it is.
+    pub fn code_of(&self, text: &[u8]) -> HashValue
+        ensures code { (hash : TheHash) (key fed : List ℕ) → Holds self.now hash key fed →
+            result ≡ hmac hash key (fed ++ text.now) }
+        ensures length { (hash : TheHash) (key fed : List ℕ) → Holds self.now hash key fed →
+            length result ≡ output_len hash }
+    {
+        let mut inner = self.inner.copy();
+        inner.feed(text);
+        let mut outer = self.outer.copy();
+        outer.feed(inner.finish().as_slice());
+        outer.finish()
+    }
+
     /// An HMAC under the same key that was fed the same bytes.
     pub fn copy(&self) -> Hmac
         ensures { result ≡ self.now }

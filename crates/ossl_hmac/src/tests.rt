@@ -1,6 +1,6 @@
-// Codes that RFC 4231 and OpenSSL 3.0 give.
+// Codes that RFC 4231 and OpenSSL 3.0 give, and keys that RFC 6070 and OpenSSL 3.0 give.
 
-use crate::Hmac;
+use crate::{Hmac, pbkdf2};
 use ossl_digests::{Digester, Hash, HashValue};
 use std::test::Fail;
 
@@ -90,5 +90,77 @@ fn published_codes(rt: HostRuntime) -> Result<(), Fail> {
     );
     other.feed(&text[20..]);
     assert_eq!(rt; other.finish().as_slice(), code.as_slice());
+    Ok(())
+}
+
+// Passwords, salts and rounds, with the keys out of them: RFC 6070, and two of OpenSSL 3.0.
+const KEYS: [(Hash, &str, &str, u32, &str); 7] = [
+    (
+        Hash::Sha1,
+        "password",
+        "salt",
+        1,
+        "0c60c80f961f0e71f3a9b524af6012062fe037a6",
+    ),
+    (
+        Hash::Sha1,
+        "password",
+        "salt",
+        2,
+        "ea6c014dc72d6f8ccd1ed92ace1d41f0d8de8957",
+    ),
+    (
+        Hash::Sha1,
+        "password",
+        "salt",
+        4096,
+        "4b007901b765489abead49d926f721d065a429c1",
+    ),
+    (
+        Hash::Sha1,
+        "passwordPASSWORDpassword",
+        "saltSALTsaltSALTsaltSALTsaltSALTsalt",
+        4096,
+        "3d2eec4fe41c849b80c8d83662c0e44a8b291a964cf2f07038",
+    ),
+    (
+        Hash::Sha1,
+        "pass\0word",
+        "sa\0lt",
+        4096,
+        "56fa6aa75548099dcc37d7f03425e0c3",
+    ),
+    (
+        Hash::Sha256,
+        "password",
+        "salt",
+        1,
+        "120fb6cffcf8b32c43e7225256c4f837a86548c92ccc35480805987cb70be17b",
+    ),
+    (
+        Hash::Sha256,
+        "password",
+        "salt",
+        2,
+        "ae4d0c95af6b46d32d0adff928f06dd02a303f8ef3c251dfd6e2d85a95474c43",
+    ),
+];
+
+#[test]
+fn published_keys(rt: HostRuntime) -> Result<(), Fail> {
+    for (hash, password, salt, rounds, key) in &KEYS {
+        let mut room = [0; 64];
+        let len = key.len() / 2;
+        assert!(rt; len <= 64);
+        assert!(rt; *rounds >= 1);
+        pbkdf2(
+            *hash,
+            password.as_bytes(),
+            salt.as_bytes(),
+            *rounds,
+            &mut room[..len],
+        );
+        assert_eq!(rt; hex::encode(rt.alloc(), &room[..len])?.as_str(), *key);
+    }
     Ok(())
 }
