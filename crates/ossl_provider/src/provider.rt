@@ -10,7 +10,7 @@ pub struct Refused;
 
 /// A provider: what never changes in it, its facts, and what was done with it, its sheet.
 /// No call takes memory.
-pub trait Provider: Send + Drop {
+pub trait Provider: Drop {
     /// The name, the rows, and which codes it admits at which lengths of key.
     ghost facts: { Self → Facts };
 
