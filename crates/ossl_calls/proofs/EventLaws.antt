@@ -12,24 +12,24 @@ use Rattle.ossl_base.specs.declared.entry.Entry.{Entry}
 use Rattle.ossl_provider.specs.Members.{is_in, without, is_distinct}
 use Rattle.ossl_provider.specs.Sheet.{Sheet, after_start, after_refusal}
 use Rattle.ossl_provider.proofs.MembersLaws.{is_distinct-without, length-without, without-absent}
-use Rattle.ossl_calls.specs.declared.call.Call.{Call}
-use Rattle.ossl_calls.specs.declared.call.Reply.{Reply}
-use Rattle.ossl_calls.specs.declared.state.Born.{Born}
-use Rattle.ossl_calls.specs.declared.state.Going.{Going}
-use Rattle.ossl_calls.specs.declared.state.Going.TheVariants.{Element, Activation, Nothing, Library}
-use Rattle.ossl_calls.specs.declared.state.State.{State}
-use Rattle.ossl_calls.specs.Boxes.{sheet_of, facts_at, no_sheet}
+use Rattle.ossl_state.specs.declared.call.Call.{Call}
+use Rattle.ossl_state.specs.declared.call.Reply.{Reply}
+use Rattle.ossl_state.specs.declared.state.Born.{Born}
+use Rattle.ossl_state.specs.declared.state.Going.{Going}
+use Rattle.ossl_state.specs.declared.state.Going.TheVariants.{Element, Activation, Nothing, Library}
+use Rattle.ossl_state.specs.declared.state.State.{State}
+use Rattle.ossl_state.specs.Boxes.{sheet_of, facts_at, no_sheet, with_up}
 use Rattle.ossl_calls.specs.Events.{Keeps, Takes, Refuses, Bears}
-use Rattle.ossl_calls.specs.Going.{without_going, with_up}
-use Rattle.ossl_calls.specs.History.{Fixed, IsNext, state_after, says_refused, refusals}
+use Rattle.ossl_state.specs.Going.{without_going}
+use Rattle.ossl_state.specs.History.{Fixed, IsNext, state_after, says_refused, refusals}
 use Rattle.ossl_calls.specs.Kept.{IsKept}
 use Rattle.ossl_calls.specs.Registry.{sheet_at}
-use Rattle.ossl_calls.specs.Sound.{IsSound, HasSoundInstances, number_of_born, lib_of_born}
-use Rattle.ossl_calls.specs.State.{is_of_box, is_up, up_instances, up_at, starts_at}
-use Rattle.ossl_calls.specs.Step.{with_next}
-use Rattle.ossl_calls.proofs.HistoryLaws.{state_after-push, IsLegal-push, refusals-push, next-after}
-use Rattle.ossl_calls.proofs.LegalLaws.{sound_after}
-use Rattle.ossl_calls.proofs.ListLaws.{is_in_below, all_fewer}
+use Rattle.ossl_state.specs.Sound.{IsSound, HasSoundInstances, number_of_born, lib_of_born}
+use Rattle.ossl_state.specs.State.{is_of_box, is_up, up_instances, up_at, starts_at}
+use Rattle.ossl_state.specs.Step.{with_next}
+use Rattle.ossl_state.proofs.HistoryLaws.{state_after-push, IsLegal-push, refusals-push, next-after}
+use Rattle.ossl_state.proofs.LegalLaws.{sound_after}
+use Rattle.ossl_state.proofs.ListLaws.{is_in_below, all_fewer}
 use Rattle.ossl_calls.proofs.OpeningLaws.{same_sheet}
 use Rattle.ossl_calls.proofs.UpLaws.{is_in-numbers_at}
 

@@ -12,29 +12,29 @@ use Rattle.std.proofs.lemmas.Slice.Eq.{bytes_eq-Decides}
 use Rattle.ossl_base.specs.declared.entry.Entry.{Entry}
 use Rattle.ossl_provider.specs.Sheet.{Facts}
 use Rattle.ossl_codes.specs.declared.code.Operation.{Operation}
-use Rattle.ossl_calls.specs.declared.call.Call.{Call}
-use Rattle.ossl_calls.specs.declared.call.Call.TheVariants.{SetDefault, Fetch, NewCtx}
+use Rattle.ossl_state.specs.declared.call.Call.{Call}
+use Rattle.ossl_state.specs.declared.call.Call.TheVariants.{SetDefault, Fetch, NewCtx}
 use Rattle.ossl_property.specs.declared.clause.Clause.{Clause}
-use Rattle.ossl_calls.specs.declared.call.Reply.{Reply}
-use Rattle.ossl_calls.specs.declared.call.Reply.TheVariants.{Made, Done, StartRefused}
-use Rattle.ossl_calls.specs.declared.state.Born.{Born}
-use Rattle.ossl_calls.specs.declared.state.Choice.{Choice}
-use Rattle.ossl_calls.specs.declared.state.Live.{Live}
-use Rattle.ossl_calls.specs.declared.state.State.{State}
-use Rattle.ossl_calls.specs.Best.{best_method}
-use Rattle.ossl_calls.specs.Boxes.{facts_at, place_of, default_name}
-use Rattle.ossl_calls.specs.Events.{Keeps, Bears, Refuses, context_made, needs_birth}
-use Rattle.ossl_calls.specs.History.{Fixed, IsAllowed, IsStep}
+use Rattle.ossl_state.specs.declared.call.Reply.{Reply}
+use Rattle.ossl_state.specs.declared.call.Reply.TheVariants.{Made, Done, StartRefused}
+use Rattle.ossl_state.specs.declared.state.Born.{Born}
+use Rattle.ossl_state.specs.declared.state.Choice.{Choice}
+use Rattle.ossl_state.specs.declared.state.Live.{Live}
+use Rattle.ossl_state.specs.declared.state.State.{State}
+use Rattle.ossl_state.specs.Best.{best_method}
+use Rattle.ossl_state.specs.Boxes.{facts_at, place_of, default_name}
+use Rattle.ossl_calls.specs.Events.{Keeps, Bears, Refuses}
+use Rattle.ossl_state.specs.History.{Fixed, IsAllowed, IsStep}
 use Rattle.ossl_calls.specs.Registry.{are_apart}
-use Rattle.ossl_calls.specs.Sound.{HasSoundInstances, giving_back}
-use Rattle.ossl_calls.specs.State.{lib_at, with_lib, is_active_box, up_in, up_instances}
-use Rattle.ossl_calls.specs.Step.{after_activation, after_fallback, element_of, new_context, with_element, fallback_of, fetched_of, defaulted_of, with_default, grouped_of, left_by, offer_of, held_instance, new_instance, new_method, used_of, joined_of, with_active, with_born, with_fallback_used, with_method}
-use Rattle.ossl_calls.specs.Tokens.{entries_of}
-use Rattle.ossl_calls.proofs.ActiveLaws.{held_is, nothing_up}
-use Rattle.ossl_calls.proofs.ChoiceLaws.{method_up, context_up}
-use Rattle.ossl_calls.proofs.HistoryLaws.{after_activation-live, with_method-next}
+use Rattle.ossl_state.specs.Sound.{HasSoundInstances, giving_back}
+use Rattle.ossl_state.specs.State.{lib_at, with_lib, is_active_box, up_in, up_instances}
+use Rattle.ossl_state.specs.Step.{context_made, needs_birth, after_activation, after_fallback, element_of, new_context, with_element, fallback_of, fetched_of, defaulted_of, with_default, grouped_of, left_by, offer_of, held_instance, new_instance, new_method, used_of, joined_of, with_active, with_born, with_fallback_used, with_method}
+use Rattle.ossl_state.specs.Tokens.{entries_of}
+use Rattle.ossl_state.proofs.ActiveLaws.{held_is, nothing_up}
+use Rattle.ossl_state.proofs.ChoiceLaws.{method_up, context_up}
+use Rattle.ossl_state.proofs.HistoryLaws.{after_activation-live, with_method-next}
 use Rattle.ossl_calls.proofs.RoomLaws.{method-room, fallback-room}
-use Rattle.ossl_calls.proofs.SoundLaws.{fallback_found, fallback_placed, up_instances-order, up_instances-held, up_instances-element, up_instances-born, instances-fallback}
+use Rattle.ossl_state.proofs.SoundLaws.{fallback_found, fallback_placed, up_instances-order, up_instances-held, up_instances-element, up_instances-born, instances-fallback}
 
 module _ (fixed : Fixed) (s : State) (l : ℕ) (sound : HasSoundInstances fixed s.next s) (within : l < fixed.contexts) where
   here : l < length s.libs

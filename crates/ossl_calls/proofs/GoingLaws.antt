@@ -3,16 +3,16 @@ use Rattle.std.proofs.Common.{◌≡◌, ℕ, Bool, true, not, ◌||◌, List, [
 use Rattle.std.proofs.Math.ListN.{set}
 use Rattle.std.proofs.lemmas.Grind.{common_steps}
 use Rattle.ossl_provider.specs.Members.{is_in}
-use Rattle.ossl_calls.specs.declared.state.Born.{Born}
-use Rattle.ossl_calls.specs.declared.state.Going.{Going}
-use Rattle.ossl_calls.specs.declared.state.Going.TheVariants.{Element, Activation, Nothing, Library}
-use Rattle.ossl_calls.specs.declared.state.Live.{Live}
-use Rattle.ossl_calls.specs.declared.state.State.{State}
-use Rattle.ossl_calls.specs.Going.{IsThere, without_going}
-use Rattle.ossl_calls.specs.State.{is_up, lib_at, up_at}
-use Rattle.ossl_calls.specs.Step.{closed_of, is_named, returned_of, stays_active, unloaded_of}
-use Rattle.ossl_calls.proofs.ActiveLaws.{up_after_closing, up_after_settling}
-use Rattle.ossl_calls.proofs.ListLaws.{any_fewer}
+use Rattle.ossl_state.specs.declared.state.Born.{Born}
+use Rattle.ossl_state.specs.declared.state.Going.{Going}
+use Rattle.ossl_state.specs.declared.state.Going.TheVariants.{Element, Activation, Nothing, Library}
+use Rattle.ossl_state.specs.declared.state.Live.{Live}
+use Rattle.ossl_state.specs.declared.state.State.{State}
+use Rattle.ossl_state.specs.Going.{IsThere, without_going}
+use Rattle.ossl_state.specs.State.{is_up, lib_at, up_at}
+use Rattle.ossl_state.specs.Step.{closed_of, is_named, returned_of, stays_active, unloaded_of}
+use Rattle.ossl_state.proofs.ActiveLaws.{up_after_closing, up_after_settling}
+use Rattle.ossl_state.proofs.ListLaws.{any_fewer}
 use Rattle.ossl_calls.proofs.UpLaws.{numbers_at}
 
 -- an instance that is up once something has gone was up before
@@ -31,9 +31,3 @@ up_at-without s (Element t) k = refl
 up_at-without s (Activation l t kept) k = refl
 up_at-without s Nothing k = refl
 up_at-without s (Library l) k = refl
-
--- a library context replaced, and put back changed
-pub set_twice : {X : Type 0} (xs : List X) (i : ℕ) (a b : X) → set (set xs i a) i b ≡ set xs i b
-set_twice [] i a b = refl
-set_twice (x ∷ xs) zero a b = refl
-set_twice (x ∷ xs) (suc i) a b = ap (λ l. x ∷ l) (set_twice xs i a b)

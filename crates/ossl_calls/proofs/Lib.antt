@@ -1,19 +1,9 @@
 -- Lemmas that several proofs share.
-pub mod ListLaws
-pub mod ActiveLaws
-pub mod SoundLaws
-pub mod ChoiceLaws
-pub mod HistoryLaws
-pub mod TokenLaws
-pub mod LegalLaws
 pub mod BoxesLaws
 pub mod UpLaws
 pub mod GoingLaws
-pub mod RowsLaws
 pub mod EventLaws
 pub mod RoomLaws
 pub mod FetchLaws
 pub mod LoadLaws
 pub mod OpeningLaws
-pub mod WorkedRows
-pub mod WorkedLoads

@@ -5,27 +5,27 @@ use Rattle.std.specs.declared.option.Option.{Option}
 use Rattle.std.specs.Option.{option_map}
 use Rattle.ossl_base.specs.declared.entry.Entry.{Entry}
 use Rattle.ossl_provider.specs.Sheet.{Facts}
-use Rattle.ossl_calls.specs.declared.call.Call.{Call}
-use Rattle.ossl_calls.specs.declared.call.Call.TheVariants.{Load, Unload, UpRef}
-use Rattle.ossl_calls.specs.declared.call.Reply.{Reply}
-use Rattle.ossl_calls.specs.declared.call.Reply.TheVariants.{Made, StartRefused}
-use Rattle.ossl_calls.specs.declared.state.Born.{Born}
-use Rattle.ossl_calls.specs.declared.state.Live.{Live}
-use Rattle.ossl_calls.specs.declared.state.State.{State}
-use Rattle.ossl_calls.specs.Boxes.{place_of}
-use Rattle.ossl_calls.specs.Events.{Bears, Keeps, Refuses, Takes, needs_birth, unloading, unloading_from}
-use Rattle.ossl_calls.specs.Going.{answer_of}
-use Rattle.ossl_calls.specs.History.{Fixed, IsAllowed, IsStep}
+use Rattle.ossl_state.specs.declared.call.Call.{Call}
+use Rattle.ossl_state.specs.declared.call.Call.TheVariants.{Load, Unload, UpRef}
+use Rattle.ossl_state.specs.declared.call.Reply.{Reply}
+use Rattle.ossl_state.specs.declared.call.Reply.TheVariants.{Made, StartRefused}
+use Rattle.ossl_state.specs.declared.state.Born.{Born}
+use Rattle.ossl_state.specs.declared.state.Live.{Live}
+use Rattle.ossl_state.specs.declared.state.State.{State}
+use Rattle.ossl_state.specs.Boxes.{place_of}
+use Rattle.ossl_calls.specs.Events.{Bears, Keeps, Refuses, Takes, unloading, unloading_from}
+use Rattle.ossl_state.specs.Going.{answer_of}
+use Rattle.ossl_state.specs.History.{Fixed, IsAllowed, IsStep}
 use Rattle.ossl_calls.specs.Registry.{are_apart}
-use Rattle.ossl_calls.specs.Sound.{HasSoundInstances, giving_back}
-use Rattle.ossl_calls.specs.State.{lib_at, up_instances, with_lib}
-use Rattle.ossl_calls.specs.Step.{activation_given, after_activation, after_load_of, element_of, holder_of, loaded_of, loaded_reply, new_instance, second_method, with_element}
-use Rattle.ossl_calls.specs.Tokens.{entries_of}
-use Rattle.ossl_calls.proofs.ChoiceLaws.{element_up}
+use Rattle.ossl_state.specs.Sound.{HasSoundInstances, giving_back}
+use Rattle.ossl_state.specs.State.{lib_at, up_instances, with_lib}
+use Rattle.ossl_state.specs.Step.{activation_given, after_activation, after_load_of, element_of, holder_of, loaded_of, loaded_reply, needs_birth, new_instance, second_method, with_element}
+use Rattle.ossl_state.specs.Tokens.{entries_of}
+use Rattle.ossl_state.proofs.ChoiceLaws.{element_up}
 use Rattle.ossl_calls.proofs.FetchLaws.{activation-bears, activation-keeps, box-refuses, needs-none, needs-start, start-alone}
-use Rattle.ossl_calls.proofs.HistoryLaws.{after_activation-live}
+use Rattle.ossl_state.proofs.HistoryLaws.{after_activation-live}
 use Rattle.ossl_calls.proofs.RoomLaws.{load-room}
-use Rattle.ossl_calls.proofs.SoundLaws.{box_placed, holder_there, up_instances-element, up_instances-order}
+use Rattle.ossl_state.proofs.SoundLaws.{box_placed, holder_there, up_instances-element, up_instances-order}
 
 -- 1. A load of the box at a place.
 

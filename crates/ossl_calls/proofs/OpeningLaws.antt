@@ -3,11 +3,11 @@ use Rattle.std.proofs.Common.{◌≡◌, ℕ, ◌+◌, ◌-◌, ◌^◌, ◌<◌
 use Rattle.std.specs.Prelude.{slice_index}
 use Rattle.std.proofs.lemmas.List.Elements.{All-get_or}
 use Rattle.ossl_provider.specs.Sheet.{Sheet}
-use Rattle.ossl_calls.specs.Boxes.{sheet_of, no_sheet}
-use Rattle.ossl_calls.specs.History.{Fixed}
+use Rattle.ossl_state.specs.Boxes.{sheet_of, no_sheet}
+use Rattle.ossl_state.specs.History.{Fixed}
 use Rattle.ossl_calls.specs.Kept.{IsKept}
 use Rattle.ossl_calls.specs.Registry.{IsCatalogue, IsIdle}
-use Rattle.ossl_calls.specs.State.{opening_state}
+use Rattle.ossl_state.specs.State.{opening_state}
 
 pub same_sheet : (s t : Sheet) → s.up ≡ t.up → s.starts ≡ t.starts → s.faults ≡ t.faults → s ≡ t
 same_sheet s t up starts faults = λ i. record { up = up i; starts = starts i; faults = faults i }

@@ -10,24 +10,24 @@ use Rattle.std.proofs.lemmas.List.Sums.{sum_by-append}
 use Rattle.ossl_base.specs.declared.entry.Entry.{Entry}
 use Rattle.ossl_provider.specs.Sheet.{Facts}
 use Rattle.ossl_property.specs.declared.clause.Clause.{Clause}
-use Rattle.ossl_calls.specs.declared.call.Call.{Call}
-use Rattle.ossl_calls.specs.declared.call.Call.TheVariants.{Load, Unload}
-use Rattle.ossl_calls.specs.declared.call.Reply.{Reply}
-use Rattle.ossl_calls.specs.declared.call.Reply.TheVariants.{Loaded}
-use Rattle.ossl_calls.specs.declared.state.Choice.{Choice}
-use Rattle.ossl_calls.specs.declared.state.Kind.TheVariants.{Method, Context}
-use Rattle.ossl_calls.specs.declared.state.LibCtx.{LibCtx}
-use Rattle.ossl_calls.specs.declared.state.Live.{Live}
-use Rattle.ossl_calls.specs.declared.state.State.{State}
+use Rattle.ossl_state.specs.declared.call.Call.{Call}
+use Rattle.ossl_state.specs.declared.call.Call.TheVariants.{Load, Unload}
+use Rattle.ossl_state.specs.declared.call.Reply.{Reply}
+use Rattle.ossl_state.specs.declared.call.Reply.TheVariants.{Loaded}
+use Rattle.ossl_state.specs.declared.state.Choice.{Choice}
+use Rattle.ossl_state.specs.declared.state.Kind.TheVariants.{Method, Context}
+use Rattle.ossl_state.specs.declared.state.LibCtx.{LibCtx}
+use Rattle.ossl_state.specs.declared.state.Live.{Live}
+use Rattle.ossl_state.specs.declared.state.State.{State}
 use Rattle.ossl_calls.specs.Events.{unloading_from}
-use Rattle.ossl_calls.specs.Going.{answer_of, returned_by, without_going}
-use Rattle.ossl_calls.specs.History.{Fixed}
-use Rattle.ossl_calls.specs.Sound.{IsSound, Lent, is_lent_to, is_own, lent_after, lent_by, lent_with, open_count, giving_back}
-use Rattle.ossl_calls.specs.State.{fresh_lib, no_lib, lib_at, is_active_box}
-use Rattle.ossl_calls.specs.Step.{new_method, used_of, defaulted_of, with_default, joined_of, held_instance, is_named, with_instance, with_groups, grouped_of, offer_of, activation_given, after_activation, after_load_of, kept_of, loaded_of, unloaded_of, with_fallback_used, with_method, with_unloaded, without_element}
-use Rattle.ossl_calls.specs.Tokens.{activation_token, method_token, context_token, owns, entries_of}
-use Rattle.ossl_calls.proofs.ListLaws.{any_more, length-filter, length-filter_less}
-use Rattle.ossl_calls.proofs.TokenLaws.{lent-push}
+use Rattle.ossl_state.specs.Going.{answer_of, returned_by, without_going}
+use Rattle.ossl_state.specs.History.{Fixed}
+use Rattle.ossl_state.specs.Sound.{IsSound, Lent, is_lent_to, is_own, lent_after, lent_by, lent_with, open_count, giving_back}
+use Rattle.ossl_state.specs.State.{fresh_lib, no_lib, lib_at, is_active_box}
+use Rattle.ossl_state.specs.Step.{new_method, used_of, defaulted_of, with_default, joined_of, held_instance, is_named, with_instance, with_groups, grouped_of, offer_of, activation_given, after_activation, after_load_of, kept_of, loaded_of, unloaded_of, with_fallback_used, with_method, with_unloaded, without_element}
+use Rattle.ossl_state.specs.Tokens.{activation_token, method_token, context_token, owns, entries_of}
+use Rattle.ossl_state.proofs.ListLaws.{any_more, length-filter, length-filter_less}
+use Rattle.ossl_state.proofs.TokenLaws.{lent-push}
 
 open_count-cons : (x : LibCtx) (libs : List LibCtx) → open_count (x ∷ libs) ≡ (if x.is_open then 1 else 0) + open_count libs
 open_count-cons x libs = sum_by-append (λ (lib : LibCtx). cond lib.is_open 1 0) (x ∷ []) libs ∙ rw zero-add refl

@@ -10,11 +10,10 @@ use Rattle.std.proofs.lemmas.Bool.{cases_Bool, and_parts, eq-eqb, ne_eqb, cases_
 use Rattle.ossl_provider.specs.Members.{is_in, without, is_distinct}
 use Rattle.ossl_provider.specs.Sheet.{Sheet, after_stop}
 use Rattle.ossl_provider.proofs.MembersLaws.{without-absent}
-use Rattle.ossl_calls.specs.declared.state.Born.{Born}
-use Rattle.ossl_calls.specs.Boxes.{sheet_of, no_sheet}
-use Rattle.ossl_calls.specs.Going.{with_up}
-use Rattle.ossl_calls.specs.Sound.{number_of_born}
-use Rattle.ossl_calls.specs.State.{is_of_box}
+use Rattle.ossl_state.specs.declared.state.Born.{Born}
+use Rattle.ossl_state.specs.Boxes.{sheet_of, no_sheet, with_up}
+use Rattle.ossl_state.specs.Sound.{number_of_born}
+use Rattle.ossl_state.specs.State.{is_of_box}
 
 -- the numbers of a box's instances that pass a test, in order
 abbrev pub numbers_at : (Born → Bool) → ℕ → List Born → List ℕ

@@ -1,14 +1,14 @@
 -- What the contracts of the registry cite.
-pub mod Boxes
-pub mod Rows
-pub mod State
-pub mod Best
-pub mod Tokens
-pub mod Step
-pub mod History
+pub use Rattle.ossl_state.specs.Boxes
+pub use Rattle.ossl_state.specs.Rows
+pub use Rattle.ossl_state.specs.State
+pub use Rattle.ossl_state.specs.Best
+pub use Rattle.ossl_state.specs.Tokens
+pub use Rattle.ossl_state.specs.Step
+pub use Rattle.ossl_state.specs.History
+pub use Rattle.ossl_state.specs.Sound
+pub use Rattle.ossl_state.specs.Going
+pub use Rattle.ossl_state.specs.Text
 pub mod Registry
-pub mod Sound
 pub mod Kept
-pub mod Going
 pub mod Events
-pub mod Text

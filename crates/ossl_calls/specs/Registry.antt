@@ -4,13 +4,13 @@ use Rattle.std.specs.List.{list_any}
 use Rattle.std.specs.Str.{bytes_eq}
 use Rattle.ossl_base.specs.declared.entry.Entry.{Entry}
 use Rattle.ossl_provider.specs.Sheet.{Facts, Sheet}
-use Rattle.ossl_calls.specs.declared.call.Call.{Call}
-use Rattle.ossl_calls.specs.declared.call.Call.TheVariants.{Load, Unload, SetDefault, Fetch, UpRef, Free, NewCtx, FreeCtx, CloseLib}
-use Rattle.ossl_calls.specs.declared.call.Reply.{Reply}
-use Rattle.ossl_calls.specs.declared.state.State.{State}
-use Rattle.ossl_calls.specs.Boxes.{sheet_of, facts_at}
-use Rattle.ossl_calls.specs.History.{Fixed, state_after, refusals}
-use Rattle.ossl_calls.specs.State.{lib_at, up_at, starts_at}
+use Rattle.ossl_state.specs.declared.call.Call.{Call}
+use Rattle.ossl_state.specs.declared.call.Call.TheVariants.{Load, Unload, SetDefault, Fetch, UpRef, Free, NewCtx, FreeCtx, CloseLib}
+use Rattle.ossl_state.specs.declared.call.Reply.{Reply}
+use Rattle.ossl_state.specs.declared.state.State.{State}
+use Rattle.ossl_state.specs.Boxes.{sheet_of, facts_at}
+use Rattle.ossl_state.specs.History.{Fixed, state_after, refusals}
+use Rattle.ossl_state.specs.State.{lib_at, up_at, starts_at}
 
 -- no two boxes have one name
 abbrev pub are_apart : List Facts → Bool

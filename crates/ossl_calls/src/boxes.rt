@@ -1,9 +1,22 @@
-ghost use Rattle.std.specs.Prelude.{◌≡◌, ◌<◌, ◌^◌, ◌-◌, length, map, slice_set, IsTrue, IsFalse, OnOk, OnErr, vec_len};
+ghost use Rattle.std.specs.Prelude.{◌≡◌, ◌<◌, ◌^◌, ◌-◌, ℕ, length, map, slice_index, slice_set, IfOk, IsTrue, IsFalse, OnOk, OnErr, vec_len};
 ghost use Rattle.ossl_provider.specs.Members.{is_in};
 ghost use Rattle.ossl_provider.specs.Sheet.{after_start, after_refusal, after_stop};
-ghost use Rattle.ossl_calls.specs.Boxes.{sheet_of};
+ghost use Rattle.ossl_state.specs.Boxes.{sheet_of};
 
 use ossl_provider::provider::{Provider, Refused};
+use std::alloc::{AllocError, Global};
+
+/// The count of faults of each box.
+pub fn counts_of<P: Provider>(alloc: Global, boxes: &[P]) -> Result<Vec<u64>, AllocError>
+    ensures counts { IfOk result (λ counts. counts.items ≡ map (λ b. (P.sheet b).faults) boxes.now) }
+    ensures fit { IfOk result (λ counts. (k : ℕ) → slice_index counts.items k < 2 ^ 64) }
+{
+    let mut counts = Vec::new(alloc);
+    for b in boxes {
+        counts.push(b.faults())?;
+    }
+    Ok(counts)
+}
 
 /// Starts the provider at a place. Its sheet alone changes.
 pub fn start_at<P: Provider>(boxes: &mut Vec<P>, place: usize, instance: u64) -> Result<(), Refused>

@@ -1,8 +1,8 @@
 ghost use Rattle.std.specs.Prelude.{◌≡◌, ◌≤◌, ◌<◌, ◌+◌, ◌-◌, ◌^◌, ◌++◌, ◌∷◌, [], OnOk, vec_len, vec_capacity};
-ghost use Rattle.ossl_calls.specs.Sound.{open_count, giving_back, lent_with};
+ghost use Rattle.ossl_state.specs.Sound.{open_count, giving_back, lent_with};
 
-use crate::call::{Entry, Reply};
-use crate::state::{LibCtx, State};
+use ossl_state::call::{Entry, Reply};
+use ossl_state::state::{LibCtx, State};
 use std::alloc::AllocError;
 
 /// The places that one more entry takes at most: its own, and one to give back each thing that it may hand out, an element and

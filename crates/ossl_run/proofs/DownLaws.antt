@@ -5,10 +5,10 @@ use Rattle.std.specs.List.{All, filter}
 use Rattle.std.proofs.lemmas.List.Elements.{All-from_get_or}
 use Rattle.ossl_base.specs.declared.entry.Entry.{Entry}
 use Rattle.ossl_provider.specs.Sheet.{Sheet}
-use Rattle.ossl_calls.specs.declared.call.Call.{Call}
-use Rattle.ossl_calls.specs.declared.call.Reply.{Reply}
-use Rattle.ossl_calls.specs.declared.state.LibCtx.{LibCtx}
-use Rattle.ossl_calls.specs.declared.state.State.{State}
+use Rattle.ossl_state.specs.declared.call.Call.{Call}
+use Rattle.ossl_state.specs.declared.call.Reply.{Reply}
+use Rattle.ossl_state.specs.declared.state.LibCtx.{LibCtx}
+use Rattle.ossl_state.specs.declared.state.State.{State}
 use Rattle.ossl_calls.specs.Boxes.{no_sheet}
 use Rattle.ossl_calls.specs.History.{Fixed, state_after}
 use Rattle.ossl_calls.specs.Registry.{HasSheets, IsDown}

@@ -5,17 +5,17 @@ use Rattle.std.proofs.lemmas.Bool.{true≢false}
 use Rattle.std.proofs.lemmas.List.{nil_from_length}
 use Rattle.ossl_base.specs.declared.entry.Entry.{Entry}
 use Rattle.ossl_provider.specs.Sheet.{Sheet}
-use Rattle.ossl_calls.specs.declared.call.Call.{Call}
-use Rattle.ossl_calls.specs.declared.call.Call.TheVariants.{CloseLib}
-use Rattle.ossl_calls.specs.declared.call.Reply.{Reply}
-use Rattle.ossl_calls.specs.declared.call.Reply.TheVariants.{Done, NoLib}
-use Rattle.ossl_calls.specs.declared.state.State.{State}
+use Rattle.ossl_state.specs.declared.call.Call.{Call}
+use Rattle.ossl_state.specs.declared.call.Call.TheVariants.{CloseLib}
+use Rattle.ossl_state.specs.declared.call.Reply.{Reply}
+use Rattle.ossl_state.specs.declared.call.Reply.TheVariants.{Done, NoLib}
+use Rattle.ossl_state.specs.declared.state.State.{State}
 use Rattle.ossl_calls.specs.History.{Fixed, IsLegal, state_after}
 use Rattle.ossl_calls.specs.Registry.{HasSheets, IsDown}
 use Rattle.ossl_calls.specs.State.{lib_at, opening_state, up_instances}
 use Rattle.ossl_calls.specs.Step.{Answers, left_by, with_closed}
-use Rattle.ossl_calls.proofs.HistoryLaws.{IsLegal-last, state_after-push}
-use Rattle.ossl_calls.proofs.LegalLaws.{sound_after}
+use Rattle.ossl_state.proofs.HistoryLaws.{IsLegal-last, state_after-push}
+use Rattle.ossl_state.proofs.LegalLaws.{sound_after}
 use Rattle.ossl_run.specs.declared.line.Line.{Line}
 use Rattle.ossl_run.specs.Ordered.{IsLine, IsClosing, IsOrderedRun, replies_of}
 use Rattle.ossl_run.proofs.DownLaws.{closed_orders, none_up, sheets_down}

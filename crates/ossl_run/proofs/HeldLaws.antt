@@ -6,13 +6,13 @@ use Rattle.std.proofs.lemmas.List.{append-nil, length_push}
 use Rattle.ossl_base.specs.declared.entry.Entry.{Entry}
 use Rattle.ossl_codes.specs.declared.code.Code.{Code}
 use Rattle.ossl_codes.specs.declared.code.Operation.TheVariants.{Digest}
-use Rattle.ossl_calls.specs.declared.call.Call.{Call}
-use Rattle.ossl_calls.specs.declared.call.Call.TheVariants.{Fetch, NewCtx, Free, FreeCtx}
-use Rattle.ossl_calls.specs.declared.call.Reply.{Reply}
-use Rattle.ossl_calls.specs.declared.call.Reply.TheVariants.{Fetched, Made, Done, NoLib, StartRefused, Unsupported, NotAdmitted}
-use Rattle.ossl_calls.specs.declared.state.Kind.{Kind}
-use Rattle.ossl_calls.specs.declared.state.Kind.TheVariants.{Method, Context}
-use Rattle.ossl_calls.specs.declared.state.State.{State}
+use Rattle.ossl_state.specs.declared.call.Call.{Call}
+use Rattle.ossl_state.specs.declared.call.Call.TheVariants.{Fetch, NewCtx, Free, FreeCtx}
+use Rattle.ossl_state.specs.declared.call.Reply.{Reply}
+use Rattle.ossl_state.specs.declared.call.Reply.TheVariants.{Fetched, Made, Done, NoLib, StartRefused, Unsupported, NotAdmitted}
+use Rattle.ossl_state.specs.declared.state.Kind.{Kind}
+use Rattle.ossl_state.specs.declared.state.Kind.TheVariants.{Method, Context}
+use Rattle.ossl_state.specs.declared.state.State.{State}
 use Rattle.ossl_calls.specs.Best.{best_method}
 use Rattle.ossl_calls.specs.History.{Fixed, IsRun, after_entry, state_from}
 use Rattle.ossl_property.specs.declared.clause.Clause.{Clause}
@@ -21,10 +21,10 @@ use Rattle.ossl_run.specs.declared.line.Line.{Line}
 use Rattle.ossl_calls.specs.Sound.{IsSound, is_own}
 use Rattle.ossl_calls.specs.Step.{Answers, after_fallback, element_of, is_named, left_by, new_context, new_method}
 use Rattle.ossl_calls.specs.Tokens.{method_token, context_token, entries_of, owns, owns_named}
-use Rattle.ossl_calls.proofs.HistoryLaws.{after_fallback-live}
-use Rattle.ossl_calls.proofs.LegalLaws.{sound_after-entry}
-use Rattle.ossl_calls.proofs.ListLaws.{any_more, length-filter_less}
-use Rattle.ossl_calls.proofs.TokenLaws.{admitted_some, fetched_some}
+use Rattle.ossl_state.proofs.HistoryLaws.{after_fallback-live}
+use Rattle.ossl_state.proofs.LegalLaws.{sound_after-entry}
+use Rattle.ossl_state.proofs.ListLaws.{any_more, length-filter_less}
+use Rattle.ossl_state.proofs.TokenLaws.{admitted_some, fetched_some}
 use Rattle.ossl_run.specs.Ordered.{replies_of}
 use Rattle.ossl_run.specs.Script.{Follows, is_built, next_asked, next_built, next_call, next_unbuilt, next_with}
 use Rattle.ossl_run.proofs.OpenLaws.{IsOpen, open_after-fetch, open_after-context, open_after-free, open_after-free_ctx}

@@ -6,13 +6,13 @@ use Rattle.std.proofs.lemmas.Bool.{cases_Bool}
 use Rattle.ossl_provider.specs.Sheet.{Facts}
 use Rattle.ossl_codes.specs.declared.code.Operation.{Operation}
 use Rattle.ossl_property.specs.declared.clause.Clause.{Clause}
-use Rattle.ossl_calls.specs.declared.call.Call.TheVariants.{Fetch, NewCtx, Free, FreeCtx}
-use Rattle.ossl_calls.specs.declared.call.Reply.{Reply}
-use Rattle.ossl_calls.specs.declared.call.Reply.TheVariants.{Fetched, Made, Done, Unsupported}
-use Rattle.ossl_calls.specs.declared.state.Choice.{Choice}
-use Rattle.ossl_calls.specs.declared.state.LibCtx.{LibCtx}
-use Rattle.ossl_calls.specs.declared.state.Live.{Live}
-use Rattle.ossl_calls.specs.declared.state.State.{State}
+use Rattle.ossl_state.specs.declared.call.Call.TheVariants.{Fetch, NewCtx, Free, FreeCtx}
+use Rattle.ossl_state.specs.declared.call.Reply.{Reply}
+use Rattle.ossl_state.specs.declared.call.Reply.TheVariants.{Fetched, Made, Done, Unsupported}
+use Rattle.ossl_state.specs.declared.state.Choice.{Choice}
+use Rattle.ossl_state.specs.declared.state.LibCtx.{LibCtx}
+use Rattle.ossl_state.specs.declared.state.Live.{Live}
+use Rattle.ossl_state.specs.declared.state.State.{State}
 use Rattle.ossl_calls.specs.Best.{best_method}
 use Rattle.ossl_calls.specs.State.{lib_at, no_lib, is_active_box}
 use Rattle.ossl_calls.specs.Step.{after_activation, after_fallback, after_fallback_to, element_of, fallback_of, grouped_of, held_instance, left_by, offer_of, with_groups, with_context, with_instance, with_method}

@@ -3,10 +3,10 @@ use Rattle.std.proofs.Common.{◌≡◌, ℕ, ◌+◌, List, [], ◌∷◌, ◌+
 use Rattle.std.proofs.lemmas.List.{append-nil, length_push}
 use Rattle.ossl_base.specs.declared.entry.Entry.{Entry}
 use Rattle.ossl_provider.specs.Sheet.{Facts}
-use Rattle.ossl_calls.specs.declared.call.Call.{Call}
-use Rattle.ossl_calls.specs.declared.call.Reply.{Reply}
+use Rattle.ossl_state.specs.declared.call.Call.{Call}
+use Rattle.ossl_state.specs.declared.call.Reply.{Reply}
 use Rattle.ossl_calls.specs.declared.plain.Up.{Up}
-use Rattle.ossl_calls.specs.declared.state.State.{State}
+use Rattle.ossl_state.specs.declared.state.State.{State}
 use Rattle.ossl_calls.specs.History.{Fixed, after_entry, state_from, state_after}
 use Rattle.ossl_calls.specs.State.{opening_state}
 use Rattle.ossl_run.specs.Printed.{entry_line, entry_lines, lines_of, plainly, ups_of}

@@ -10,9 +10,9 @@ use Rattle.ossl_names.specs.Addition.{number_for}
 use Rattle.ossl_names.specs.Groups.{number_of, with_names}
 use Rattle.ossl_property.specs.Reading.{list_at}
 use Rattle.ossl_property.specs.Said.{definition_said, query_said}
-use Rattle.ossl_calls.specs.declared.call.Call.{Call}
-use Rattle.ossl_calls.specs.declared.call.Call.TheVariants.{Load, Unload, Fetch, Free, NewCtx, FreeCtx, CloseLib}
-use Rattle.ossl_calls.specs.declared.call.Reply.TheVariants.{Loaded, Fetched, Made, Done, NoLib, StartRefused}
+use Rattle.ossl_state.specs.declared.call.Call.{Call}
+use Rattle.ossl_state.specs.declared.call.Call.TheVariants.{Load, Unload, Fetch, Free, NewCtx, FreeCtx, CloseLib}
+use Rattle.ossl_state.specs.declared.call.Reply.TheVariants.{Loaded, Fetched, Made, Done, NoLib, StartRefused}
 use Rattle.ossl_calls.specs.History.{Fixed}
 use Rattle.ossl_calls.specs.Text.{call_text}
 use Rattle.ossl_run.specs.Printed.{lines_of, plainly, printed_batch}

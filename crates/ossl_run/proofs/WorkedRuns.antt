@@ -9,10 +9,10 @@ use Rattle.ossl_codes.specs.declared.code.Code.TheVariants.{Md5, Sha256}
 use Rattle.ossl_codes.specs.declared.code.Operation.TheVariants.{Digest}
 use Rattle.ossl_property.specs.Reading.{list_at}
 use Rattle.ossl_property.specs.Said.{query_said}
-use Rattle.ossl_calls.specs.declared.call.Call.{Call}
-use Rattle.ossl_calls.specs.declared.call.Call.TheVariants.{Load, Unload, SetDefault, Fetch, Free, NewCtx, FreeCtx, CloseLib}
-use Rattle.ossl_calls.specs.declared.call.Reply.{Reply}
-use Rattle.ossl_calls.specs.declared.call.Reply.TheVariants.{Loaded, Fetched, Made, Done, NoProvider}
+use Rattle.ossl_state.specs.declared.call.Call.{Call}
+use Rattle.ossl_state.specs.declared.call.Call.TheVariants.{Load, Unload, SetDefault, Fetch, Free, NewCtx, FreeCtx, CloseLib}
+use Rattle.ossl_state.specs.declared.call.Reply.{Reply}
+use Rattle.ossl_state.specs.declared.call.Reply.TheVariants.{Loaded, Fetched, Made, Done, NoProvider}
 use Rattle.ossl_calls.specs.History.{Fixed, IsLegal}
 use Rattle.ossl_conf.specs.View.{SettingsView}
 use Rattle.ossl_conf.specs.declared.kind.ConfKind.TheVariants.{Equals}

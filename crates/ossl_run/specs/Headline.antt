@@ -4,8 +4,8 @@ use Rattle.std.specs.declared.option.Option.{Option}
 use Rattle.std.specs.Io.KnownBytes.{Appends}
 use Rattle.ossl_base.specs.declared.entry.Entry.{Entry}
 use Rattle.ossl_provider.specs.Sheet.{Facts, Sheet}
-use Rattle.ossl_calls.specs.declared.call.Call.{Call}
-use Rattle.ossl_calls.specs.declared.call.Reply.{Reply}
+use Rattle.ossl_state.specs.declared.call.Call.{Call}
+use Rattle.ossl_state.specs.declared.call.Reply.{Reply}
 use Rattle.ossl_calls.specs.History.{Fixed, IsLegal}
 use Rattle.ossl_calls.specs.Registry.{HasSheets, IsDown}
 use Rattle.ossl_run.specs.declared.refusal.Refusal.{Refusal}

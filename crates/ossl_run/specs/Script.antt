@@ -11,10 +11,10 @@ use Rattle.ossl_codes.specs.declared.code.Code.TheVariants.{Sha256}
 use Rattle.ossl_codes.specs.declared.code.Operation.TheVariants.{Digest}
 use Rattle.ossl_property.specs.declared.clause.Clause.{Clause}
 use Rattle.ossl_property.specs.Said.{query_said}
-use Rattle.ossl_calls.specs.declared.call.Call.{Call}
-use Rattle.ossl_calls.specs.declared.call.Call.TheVariants.{Fetch, NewCtx, Free, FreeCtx}
-use Rattle.ossl_calls.specs.declared.call.Reply.{Reply}
-use Rattle.ossl_calls.specs.declared.call.Reply.TheVariants.{Fetched, Made, NotAdmitted}
+use Rattle.ossl_state.specs.declared.call.Call.{Call}
+use Rattle.ossl_state.specs.declared.call.Call.TheVariants.{Fetch, NewCtx, Free, FreeCtx}
+use Rattle.ossl_state.specs.declared.call.Reply.{Reply}
+use Rattle.ossl_state.specs.declared.call.Reply.TheVariants.{Fetched, Made, NotAdmitted}
 use Rattle.ossl_calls.specs.Text.{reply_text}
 use Rattle.ossl_run.specs.declared.line.Line.{Line}
 

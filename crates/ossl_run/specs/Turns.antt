@@ -3,9 +3,9 @@ use Rattle.std.specs.Prelude.{ℕ, ◌-◌, ◌≡◌, ◌<◌, ◌≤◌, ⊤, 
 use Rattle.std.specs.List.{flat_map, range_with_len}
 use Rattle.std.specs.Option.{option_or}
 use Rattle.ossl_base.specs.declared.entry.Entry.{Entry}
-use Rattle.ossl_calls.specs.declared.call.Call.{Call}
-use Rattle.ossl_calls.specs.declared.call.Reply.{Reply}
-use Rattle.ossl_calls.specs.declared.call.Reply.TheVariants.{StartRefused}
+use Rattle.ossl_state.specs.declared.call.Call.{Call}
+use Rattle.ossl_state.specs.declared.call.Reply.{Reply}
+use Rattle.ossl_state.specs.declared.call.Reply.TheVariants.{StartRefused}
 use Rattle.ossl_calls.specs.History.{Fixed, IsLegal}
 use Rattle.ossl_calls.specs.Tokens.{entries_of}
 use Rattle.ossl_conf.specs.View.{SettingsView}

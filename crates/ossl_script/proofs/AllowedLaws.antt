@@ -2,18 +2,18 @@
 use Rattle.std.proofs.Common.{◌≡◌, ℕ, ◌+◌, ◌≤◌, Bool, true, false, nat_eq, List, [], ◌∷◌, ◌++◌, map, refl, sym, ap, subst, arith}
 use Rattle.std.specs.Prelude.{⊤, cond, Option, None, Some}
 use Rattle.ossl_base.specs.declared.entry.Entry.{Entry}
-use Rattle.ossl_calls.specs.declared.call.Call.{Call}
-use Rattle.ossl_calls.specs.declared.call.Call.TheVariants as calls
-use Rattle.ossl_calls.specs.declared.call.Reply.{Reply}
-use Rattle.ossl_calls.specs.declared.call.Reply.TheVariants as replies
-use Rattle.ossl_calls.specs.declared.state.State.{State}
-use Rattle.ossl_calls.specs.Best.{best_method}
-use Rattle.ossl_calls.specs.Boxes.{place_of}
-use Rattle.ossl_calls.specs.History.{Fixed, IsLegal, IsRun, after_entry}
-use Rattle.ossl_calls.specs.Step.{Answers, IsLoaded, after_fallback}
-use Rattle.ossl_calls.specs.Tokens.{entries_of, names_context, owns_named}
-use Rattle.ossl_calls.proofs.HistoryLaws.{left_by-next}
-use Rattle.ossl_calls.proofs.TokenLaws.{fetched_some}
+use Rattle.ossl_state.specs.declared.call.Call.{Call}
+use Rattle.ossl_state.specs.declared.call.Call.TheVariants as calls
+use Rattle.ossl_state.specs.declared.call.Reply.{Reply}
+use Rattle.ossl_state.specs.declared.call.Reply.TheVariants as replies
+use Rattle.ossl_state.specs.declared.state.State.{State}
+use Rattle.ossl_state.specs.Best.{best_method}
+use Rattle.ossl_state.specs.Boxes.{place_of}
+use Rattle.ossl_state.specs.History.{Fixed, IsLegal, IsRun, after_entry}
+use Rattle.ossl_state.specs.Step.{Answers, IsLoaded, after_fallback}
+use Rattle.ossl_state.specs.Tokens.{entries_of, names_context, owns_named}
+use Rattle.ossl_state.proofs.HistoryLaws.{left_by-next}
+use Rattle.ossl_state.proofs.TokenLaws.{fetched_some}
 use Rattle.ossl_script.specs.declared.held.Held.{Held}
 use Rattle.ossl_script.specs.declared.held.TokenKind.{TokenKind}
 use Rattle.ossl_script.specs.declared.held.TokenKind.TheVariants.{Activation, Method, Context}

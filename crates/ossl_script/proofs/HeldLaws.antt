@@ -5,12 +5,12 @@ use Rattle.std.proofs.lemmas.Bool.{eqb-true, true≢false}
 use Rattle.std.proofs.lemmas.List.Sums.{fold-append}
 use Rattle.std.proofs.lemmas.List.{append-nil}
 use Rattle.ossl_base.specs.declared.entry.Entry.{Entry}
-use Rattle.ossl_calls.specs.declared.call.Call.{Call}
-use Rattle.ossl_calls.specs.declared.call.Call.TheVariants.{Load, Fetch, UpRef, NewCtx}
-use Rattle.ossl_calls.specs.declared.call.Reply.{Reply}
-use Rattle.ossl_calls.specs.declared.call.Reply.TheVariants.{Loaded, Fetched, Made, Done}
-use Rattle.ossl_calls.specs.Tokens.{Token, gains_by, gives_up_by, owns, owns_after, owns_after_entry}
-use Rattle.ossl_calls.specs.Tokens.Token.{activation_token, method_token, context_token}
+use Rattle.ossl_state.specs.declared.call.Call.{Call}
+use Rattle.ossl_state.specs.declared.call.Call.TheVariants.{Load, Fetch, UpRef, NewCtx}
+use Rattle.ossl_state.specs.declared.call.Reply.{Reply}
+use Rattle.ossl_state.specs.declared.call.Reply.TheVariants.{Loaded, Fetched, Made, Done}
+use Rattle.ossl_state.specs.Tokens.{Token, gains_by, gives_up_by, owns, owns_after, owns_after_entry}
+use Rattle.ossl_state.specs.Tokens.Token.{activation_token, method_token, context_token}
 use Rattle.ossl_script.specs.declared.caller.LineResult.{LineResult}
 use Rattle.ossl_commands.specs.declared.command.Line.{Line}
 use Rattle.ossl_script.specs.declared.held.Held.{Held}

@@ -14,12 +14,12 @@ use Rattle.ossl_op.specs.Begins.{begins, bytes_of}
 use Rattle.ossl_property.specs.declared.clause.Clause.{Clause}
 use Rattle.ossl_property.specs.Said.{query_said}
 use Rattle.ossl_base.specs.declared.entry.Entry.{Entry}
-use Rattle.ossl_calls.specs.declared.call.Call.{Call}
-use Rattle.ossl_calls.specs.declared.call.Call.TheVariants as calls
-use Rattle.ossl_calls.specs.declared.call.Reply.{Reply}
-use Rattle.ossl_calls.specs.declared.call.Reply.TheVariants as replies
-use Rattle.ossl_calls.specs.Tokens.{Token, gives_up_by, owns, owns_named}
-use Rattle.ossl_calls.specs.Tokens.Token.{activation_token, method_token, context_token}
+use Rattle.ossl_state.specs.declared.call.Call.{Call}
+use Rattle.ossl_state.specs.declared.call.Call.TheVariants as calls
+use Rattle.ossl_state.specs.declared.call.Reply.{Reply}
+use Rattle.ossl_state.specs.declared.call.Reply.TheVariants as replies
+use Rattle.ossl_state.specs.Tokens.{Token, gives_up_by, owns, owns_named}
+use Rattle.ossl_state.specs.Tokens.Token.{activation_token, method_token, context_token}
 use Rattle.ossl_script.specs.declared.caller.LineResult.{LineResult}
 use Rattle.ossl_script.specs.declared.caller.Next.TheVariants as nexts
 use Rattle.ossl_commands.specs.declared.command.Command.{Command}

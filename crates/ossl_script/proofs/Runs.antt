@@ -5,8 +5,8 @@ use Rattle.ossl_codes.specs.declared.code.Code.{Code}
 use Rattle.ossl_op.specs.FinishRefused.{FinishRefused}
 use Rattle.ossl_op.specs.declared.params.Params.{Params}
 use Rattle.ossl_op.specs.Standard.{standard_result}
-use Rattle.ossl_calls.specs.declared.call.Call.{Call}
-use Rattle.ossl_calls.specs.declared.call.Reply.{Reply}
+use Rattle.ossl_state.specs.declared.call.Call.{Call}
+use Rattle.ossl_state.specs.declared.call.Reply.{Reply}
 use Rattle.ossl_script.specs.declared.caller.LineResult.{LineResult}
 use Rattle.ossl_script.specs.declared.caller.Next.{Next}
 use Rattle.ossl_script.specs.declared.caller.Next.TheVariants as nexts

@@ -10,8 +10,8 @@ use Rattle.ossl_op.specs.declared.params.BeginRefused.TheVariants as begins
 use Rattle.ossl_codes.specs.declared.code.Operation.TheVariants as operations
 use Rattle.ossl_property.specs.Reading.{list_at}
 use Rattle.ossl_property.specs.Said.{query_said}
-use Rattle.ossl_calls.specs.declared.call.Call.TheVariants.{Load, Unload, Fetch, NewCtx, Free, FreeCtx, CloseLib, UpRef}
-use Rattle.ossl_calls.specs.declared.call.Reply.TheVariants.{Loaded, Fetched, Made, Done, NoLib, NoProvider, NotAdmitted, StartRefused}
+use Rattle.ossl_state.specs.declared.call.Call.TheVariants.{Load, Unload, Fetch, NewCtx, Free, FreeCtx, CloseLib, UpRef}
+use Rattle.ossl_state.specs.declared.call.Reply.TheVariants.{Loaded, Fetched, Made, Done, NoLib, NoProvider, NotAdmitted, StartRefused}
 use Rattle.ossl_script.specs.declared.outcome.Outcome.TheVariants as outcomes
 use Rattle.ossl_script.specs.Caller.{line_result}
 use Rattle.ossl_script.specs.Outcome.{finished_outcome}

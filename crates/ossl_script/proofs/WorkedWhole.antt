@@ -18,9 +18,9 @@ use Rattle.ossl_property.specs.Grammar.{no_value}
 use Rattle.ossl_property.specs.Names.{has}
 use Rattle.ossl_property.specs.Reading.{list_at, more_at, clause_at, named_at, comparison_at, removal_at, value_at, plain_at, plain_value, name_at}
 use Rattle.ossl_property.specs.Said.{query_said}
-use Rattle.ossl_calls.specs.declared.call.Call.TheVariants.{Load, Unload, SetDefault, Fetch, NewCtx, Free, FreeCtx}
-use Rattle.ossl_calls.specs.declared.call.Reply.{Reply}
-use Rattle.ossl_calls.specs.declared.call.Reply.TheVariants.{Loaded, Fetched, Made, Done, Unsupported, NotAdmitted}
+use Rattle.ossl_state.specs.declared.call.Call.TheVariants.{Load, Unload, SetDefault, Fetch, NewCtx, Free, FreeCtx}
+use Rattle.ossl_state.specs.declared.call.Reply.{Reply}
+use Rattle.ossl_state.specs.declared.call.Reply.TheVariants.{Loaded, Fetched, Made, Done, Unsupported, NotAdmitted}
 use Rattle.ossl_script.specs.declared.caller.Next.{Next}
 use Rattle.ossl_script.specs.Caller.{line_result}
 use Rattle.ossl_script.specs.Outcome.{performed_outcome}

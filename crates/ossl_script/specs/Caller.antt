@@ -2,8 +2,8 @@
 -- or the end of its lines; the calls by which it gives back what it then holds; and what is printed of its lines.
 use Rattle.std.specs.Prelude.{ℕ, ◌≡◌, ⊤, nat_eq, Option, Some, None, List, [], ◌∷◌, ◌++◌, filter, fold}
 use Rattle.ossl_base.specs.declared.entry.Entry.{Entry}
-use Rattle.ossl_calls.specs.declared.call.Call.{Call}
-use Rattle.ossl_calls.specs.declared.call.Reply.{Reply}
+use Rattle.ossl_state.specs.declared.call.Call.{Call}
+use Rattle.ossl_state.specs.declared.call.Reply.{Reply}
 use Rattle.ossl_script.specs.declared.caller.LineResult.{LineResult}
 use Rattle.ossl_script.specs.declared.caller.Next.{Next}
 use Rattle.ossl_script.specs.declared.caller.Next.TheVariants as nexts

@@ -2,9 +2,9 @@
 use Rattle.std.specs.Prelude.{ℕ, Option, List, [], ◌++◌}
 use Rattle.ossl_codes.specs.declared.code.Code.{Code}
 use Rattle.ossl_op.specs.Standard.{standard_result}
-use Rattle.ossl_calls.specs.declared.call.Call.TheVariants as calls
-use Rattle.ossl_calls.specs.declared.call.Reply.{Reply}
-use Rattle.ossl_calls.specs.declared.call.Reply.TheVariants as replies
+use Rattle.ossl_state.specs.declared.call.Call.TheVariants as calls
+use Rattle.ossl_state.specs.declared.call.Reply.{Reply}
+use Rattle.ossl_state.specs.declared.call.Reply.TheVariants as replies
 use Rattle.ossl_commands.specs.declared.command.Command.{Command}
 use Rattle.ossl_commands.specs.declared.command.Command.TheVariants.{Load, Unload, Default, Fetch, UpRef, Free, Open, Feed, Finish, Close, CloseLib, Perform}
 use Rattle.ossl_script.specs.declared.outcome.Outcome.TheVariants as outcomes

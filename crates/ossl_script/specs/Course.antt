@@ -2,8 +2,8 @@
 use Rattle.std.specs.Prelude.{ℕ, Option, Some, None, is_some, Result, Ok, Err, List, if◌then◌else◌}
 use Rattle.ossl_property.specs.declared.clause.Clause.{Clause}
 use Rattle.ossl_property.specs.Said.{query_said}
-use Rattle.ossl_calls.specs.declared.call.Call.{Call}
-use Rattle.ossl_calls.specs.declared.call.Reply.{Reply}
+use Rattle.ossl_state.specs.declared.call.Call.{Call}
+use Rattle.ossl_state.specs.declared.call.Reply.{Reply}
 use Rattle.ossl_script.specs.declared.outcome.Outcome.{Outcome}
 use Rattle.ossl_script.specs.declared.outcome.Outcome.TheVariants.{BadQuery, UnknownName, NotLoaded, WrongKind, Bound}
 use Rattle.ossl_script.specs.Bindings.{Binding, Bindings, Method, Operating}

@@ -1,12 +1,12 @@
 -- The tokens that a caller holds, and how they are given back.
 use Rattle.std.specs.Prelude.{ℕ, nat_lt, Bool, not, if◌then◌else◌, Option, Some, None, List, [], ◌∷◌, filter, map}
 use Rattle.std.specs.List.{list_any}
-use Rattle.ossl_calls.specs.declared.call.Call.{Call}
-use Rattle.ossl_calls.specs.declared.call.Call.TheVariants.{Load, Unload, Fetch, UpRef, Free, NewCtx, FreeCtx}
-use Rattle.ossl_calls.specs.declared.call.Reply.{Reply}
-use Rattle.ossl_calls.specs.declared.call.Reply.TheVariants.{Loaded, Fetched, Made, Done}
-use Rattle.ossl_calls.specs.Tokens.{Token, gives_up_by}
-use Rattle.ossl_calls.specs.Tokens.Token.{activation_token, method_token, context_token}
+use Rattle.ossl_state.specs.declared.call.Call.{Call}
+use Rattle.ossl_state.specs.declared.call.Call.TheVariants.{Load, Unload, Fetch, UpRef, Free, NewCtx, FreeCtx}
+use Rattle.ossl_state.specs.declared.call.Reply.{Reply}
+use Rattle.ossl_state.specs.declared.call.Reply.TheVariants.{Loaded, Fetched, Made, Done}
+use Rattle.ossl_state.specs.Tokens.{Token, gives_up_by}
+use Rattle.ossl_state.specs.Tokens.Token.{activation_token, method_token, context_token}
 use Rattle.ossl_script.specs.declared.held.Held.{Held}
 use Rattle.ossl_script.specs.declared.held.TokenKind.{TokenKind}
 use Rattle.ossl_script.specs.declared.held.TokenKind.TheVariants.{Activation, Method, Context}

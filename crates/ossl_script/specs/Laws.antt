@@ -1,12 +1,12 @@
 -- Laws of what callers do.
 use Rattle.std.specs.Prelude.{ℕ, ◌≡◌, ◌+◌, ◌≤◌, ⊤, true, false, Option, Some, None, List, [], ◌∷◌, ◌++◌, map, option_map}
 use Rattle.ossl_base.specs.declared.entry.Entry.{Entry}
-use Rattle.ossl_calls.specs.declared.call.Call.{Call}
-use Rattle.ossl_calls.specs.declared.call.Call.TheVariants.{Unload, UpRef, Free, NewCtx, FreeCtx}
-use Rattle.ossl_calls.specs.declared.call.Reply.{Reply}
-use Rattle.ossl_calls.specs.declared.call.Reply.TheVariants.{Loaded, Fetched, Made}
-use Rattle.ossl_calls.specs.History.{Fixed, IsAllowed, IsLegal}
-use Rattle.ossl_calls.specs.Tokens.{Token, names_context, owns, owns_named, entries_of}
+use Rattle.ossl_state.specs.declared.call.Call.{Call}
+use Rattle.ossl_state.specs.declared.call.Call.TheVariants.{Unload, UpRef, Free, NewCtx, FreeCtx}
+use Rattle.ossl_state.specs.declared.call.Reply.{Reply}
+use Rattle.ossl_state.specs.declared.call.Reply.TheVariants.{Loaded, Fetched, Made}
+use Rattle.ossl_state.specs.History.{Fixed, IsAllowed, IsLegal}
+use Rattle.ossl_state.specs.Tokens.{Token, names_context, owns, owns_named, entries_of}
 use Rattle.ossl_script.specs.declared.caller.Next.{Next}
 use Rattle.ossl_script.specs.declared.caller.Next.TheVariants as nexts
 use Rattle.ossl_commands.specs.declared.command.Line.{Line}

@@ -8,9 +8,9 @@ use Rattle.ossl_op.specs.FinishRefused.{FinishRefused}
 use Rattle.ossl_op.specs.FinishRefused.TheVariants as finish
 use Rattle.ossl_op.specs.declared.params.BeginRefused.{BeginRefused}
 use Rattle.ossl_op.specs.declared.params.BeginRefused.TheVariants as begin
-use Rattle.ossl_calls.specs.declared.call.Reply.{Reply}
-use Rattle.ossl_calls.specs.declared.call.Reply.TheVariants.{NoLib, NoProvider, StartRefused, Unsupported, NotAdmitted}
-use Rattle.ossl_calls.specs.Text.{reply_text}
+use Rattle.ossl_state.specs.declared.call.Reply.{Reply}
+use Rattle.ossl_state.specs.declared.call.Reply.TheVariants.{NoLib, NoProvider, StartRefused, Unsupported, NotAdmitted}
+use Rattle.ossl_state.specs.Text.{reply_text}
 use Rattle.ossl_script.specs.declared.outcome.Outcome.{Outcome}
 use Rattle.ossl_script.specs.declared.outcome.Outcome.TheVariants.{Done, Loaded, Fetched, Finished, Performed, BadQuery, UnknownName, NotLoaded, WrongKind, Bound, Refused, NotBegun, NotFinished}
 

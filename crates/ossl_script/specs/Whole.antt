@@ -7,9 +7,9 @@ use Rattle.ossl_op.specs.declared.params.Params.{Params}
 use Rattle.ossl_op.specs.Begins.{begins, bytes_of}
 use Rattle.ossl_op.specs.Standard.{standard_result}
 use Rattle.ossl_property.specs.declared.clause.Clause.{Clause}
-use Rattle.ossl_calls.specs.declared.call.Call.TheVariants.{Fetch, NewCtx, Free, FreeCtx}
-use Rattle.ossl_calls.specs.declared.call.Reply.{Reply}
-use Rattle.ossl_calls.specs.declared.call.Reply.TheVariants.{Fetched, Made}
+use Rattle.ossl_state.specs.declared.call.Call.TheVariants.{Fetch, NewCtx, Free, FreeCtx}
+use Rattle.ossl_state.specs.declared.call.Reply.{Reply}
+use Rattle.ossl_state.specs.declared.call.Reply.TheVariants.{Fetched, Made}
 use Rattle.ossl_script.specs.declared.outcome.Outcome.{Outcome}
 use Rattle.ossl_script.specs.declared.outcome.Outcome.TheVariants.{NotBegun}
 use Rattle.ossl_script.specs.Bindings.{Bindings, Method}

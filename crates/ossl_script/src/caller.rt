@@ -5,7 +5,7 @@ ghost use Rattle.ossl_script.specs.Caller.{call_in};
 ghost use Rattle.ossl_script.specs.Laws.{CallsAreAllowed, CallsAreOwned, CallsNameContexts, OwnLinesAlone};
 
 use ossl_base::text::Text;
-use ossl_calls::Call;
+use ossl_state::Call;
 
 /// What a caller does next.
 #[derive(Drop)]

@@ -4,7 +4,7 @@ ghost use Rattle.std.specs.Prelude.{◌≡◌};
 ghost use Rattle.ossl_script.specs.Held.{give_back_call, handed_out};
 ghost use Rattle.ossl_script.specs.Laws.{GivingBackIsAllowed, GivingBackIsOwned, GivingBackLeavesNone, HeldIsOwned};
 
-use ossl_calls::{Call, Reply};
+use ossl_state::{Call, Reply};
 
 /// What a token stands for.
 #[derive(Clone, Copy, Debug, PartialEq, Eq)]

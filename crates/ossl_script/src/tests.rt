@@ -1,6 +1,6 @@
 use crate::{Held, Next, Outcome, TokenKind};
 use ossl_base::text::{Bytes, Text};
-use ossl_calls::{Call, Reply};
+use ossl_state::{Call, Reply};
 use ossl_op::{BeginRefused, FinishRefused};
 use std::test::Fail;
 

@@ -1,5 +1,5 @@
 use Rattle.std.proofs.Common.{◌≡◌, ◌≤◌, take}
-use Rattle.ossl_calls.specs.Sound.{open_count}
+use Rattle.ossl_state.specs.Sound.{open_count}
 use Rattle.ossl_calls.proofs.room.count_open.Given as goal
 
 -- the open ones so far

@@ -1,10 +1,10 @@
 use Rattle.std.proofs.Common.{◌<◌, map, arith}
-use Rattle.ossl_calls.specs.History.{Fixed}
+use Rattle.ossl_state.specs.History.{Fixed}
 use Rattle.ossl_calls.proofs.EventLaws.{kept-sound}
 use Rattle.ossl_calls.proofs.plain.PlainRegistry.fall_back.Goals as goal
 
 pub fall_back-requires-clause-lib : goal.fall_back-requires-clause-lib
-fall_back-requires-clause-lib g c κs within =
+fall_back-requires-clause-lib g c =
     let inside = c.self.inside in
     let fixed : Fixed = record { facts = map g.P.Provider.facts inside.boxes.items; contexts = inside.contexts; opened = inside.opened.items } in
     let sound = kept-sound fixed (map g.P.Provider.sheet inside.boxes.items) inside.state inside.history.items c.self.invariant.0 in

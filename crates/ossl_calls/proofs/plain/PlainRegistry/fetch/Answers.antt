@@ -1,14 +1,14 @@
 use Rattle.std.proofs.Common.{◌≡◌, map, sym, true, ◌∙◌}
 use Rattle.std.specs.Prelude.{None, Some}
-use Rattle.ossl_calls.specs.Best.{best_method}
+use Rattle.ossl_state.specs.Best.{best_method}
 use Rattle.ossl_calls.specs.Registry.{fixed_of, state_of}
-use Rattle.ossl_calls.specs.State.{lib_at}
-use Rattle.ossl_calls.specs.Step.{fallback_of}
+use Rattle.ossl_state.specs.State.{lib_at}
+use Rattle.ossl_state.specs.Step.{fallback_of}
 use Rattle.ossl_calls.proofs.FetchLaws.{plain-keeps, plain-next}
 use Rattle.ossl_calls.proofs.plain.PlainRegistry.fetch.Goals as goal
 
 pub add-requires-clause-keeps : goal.add-requires-clause-keeps
-add-requires-clause-keeps g c κs within =
+add-requires-clause-keeps g c =
     let r = c.args.self.now in
     let s = state_of g.P.Provider.facts r in
     let chosen = c.in-Some-chosen.chosen in
@@ -18,7 +18,7 @@ add-requires-clause-keeps g c κs within =
     (plain-keeps (fixed_of g.P.Provider.facts r) s c.args.caller c.args.lib c.args.op c.args.name.now c.args.query.now chosen c.fallback.ensures.sound.instances none e)
 
 pub add-requires-clause-step : goal.add-requires-clause-step
-add-requires-clause-step g c κs within =
+add-requires-clause-step g c =
     let r = c.args.self.now in
     let s = state_of g.P.Provider.facts r in
     let none : fallback_of (map g.P.Provider.facts r.boxes) (lib_at s c.args.lib) ≡ None = sym c.in_default.ensures.place in
@@ -28,7 +28,7 @@ add-requires-clause-step g c κs within =
     (plain-next (fixed_of g.P.Provider.facts r) s r.entries c.args.caller c.args.lib c.args.op c.args.name.now c.args.query.now c.requires.allowed is_open none c.in_ok-chosen.chosen e)
 
 pub note-requires-in-None-clause-step : goal.note-requires-in-None-clause-step
-note-requires-in-None-clause-step g c κs within =
+note-requires-in-None-clause-step g c =
     let r = c.args.self.now in
     let s = state_of g.P.Provider.facts r in
     let none : fallback_of (map g.P.Provider.facts r.boxes) (lib_at s c.args.lib) ≡ None = sym c.in_default.ensures.place in

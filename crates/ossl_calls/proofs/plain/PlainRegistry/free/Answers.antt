@@ -1,12 +1,12 @@
 use Rattle.std.proofs.Common.{map, IsTrue, arith}
-use Rattle.ossl_calls.specs.History.{Fixed, state_after}
-use Rattle.ossl_calls.specs.Tokens.{owns, entries_of, method_token}
-use Rattle.ossl_calls.proofs.LegalLaws.{sound_after}
+use Rattle.ossl_state.specs.History.{Fixed, state_after}
+use Rattle.ossl_state.specs.Tokens.{owns, entries_of, method_token}
+use Rattle.ossl_state.proofs.LegalLaws.{sound_after}
 use Rattle.ossl_calls.proofs.RoomLaws.{free-room}
 use Rattle.ossl_calls.proofs.plain.PlainRegistry.free.Goals as goal
 
 pub take_down-requires-clause-room : goal.take_down-requires-clause-room
-take_down-requires-clause-room g c κs within =
+take_down-requires-clause-room g c =
     let inside = c.self.inside in
     let fixed : Fixed = record { facts = map g.P.Provider.facts inside.boxes.items; contexts = inside.contexts; opened = inside.opened.items } in
     let tokens : IsTrue (owns (entries_of c.args.caller inside.history.items) c.args.handle method_token) = rw (← c.self.view_is) at c.requires.allowed.tokens in

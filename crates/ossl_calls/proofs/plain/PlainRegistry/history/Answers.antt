@@ -1,4 +1,4 @@
-use Rattle.ossl_calls.proofs.LegalLaws.{sound_after}
+use Rattle.ossl_state.proofs.LegalLaws.{sound_after}
 use Rattle.ossl_calls.proofs.plain.PlainRegistry.history.Goals as goal
 
 -- src/plain.rt

@@ -1,9 +1,9 @@
 use Rattle.std.proofs.Common.{map, arith}
 use Rattle.ossl_base.specs.declared.entry.Entry.{Entry}
-use Rattle.ossl_calls.specs.declared.call.Call.{Call}
-use Rattle.ossl_calls.specs.declared.call.Reply.{Reply}
+use Rattle.ossl_state.specs.declared.call.Call.{Call}
+use Rattle.ossl_state.specs.declared.call.Reply.{Reply}
 use Rattle.ossl_calls.specs.Events.{Keeps}
-use Rattle.ossl_calls.specs.History.{Fixed, IsNext, state_after}
+use Rattle.ossl_state.specs.History.{Fixed, IsNext, state_after}
 use Rattle.ossl_calls.proofs.EventLaws.{IsKept-keeps, kept-next}
 use Rattle.ossl_calls.proofs.RoomLaws.{lent-more, lent_with-few}
 use Rattle.ossl_calls.proofs.plain.PlainRegistry.note.Goals as goal

@@ -1,5 +1,5 @@
 use Rattle.std.proofs.Common.{map, arith}
-use Rattle.ossl_calls.specs.History.{Fixed}
+use Rattle.ossl_state.specs.History.{Fixed}
 use Rattle.ossl_calls.proofs.OpeningLaws.{IsKept-opening, faults-get_or}
 use Rattle.ossl_calls.proofs.plain.PlainRegistry.open.Goals as goal
 

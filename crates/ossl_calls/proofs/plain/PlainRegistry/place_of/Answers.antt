@@ -1,6 +1,6 @@
 use Rattle.std.proofs.Common.{map}
-use Rattle.ossl_calls.specs.History.{Fixed}
-use Rattle.ossl_calls.proofs.LegalLaws.{sound_after}
+use Rattle.ossl_state.specs.History.{Fixed}
+use Rattle.ossl_state.proofs.LegalLaws.{sound_after}
 use Rattle.ossl_calls.proofs.plain.PlainRegistry.place_of.Goals as goal
 
 pub returns-clause-sound : goal.returns-clause-sound

@@ -1,11 +1,11 @@
 use Rattle.std.proofs.Common.{◌<◌, map, arith}
 use Rattle.ossl_base.specs.declared.entry.Entry.{Entry}
-use Rattle.ossl_calls.specs.declared.call.Call.{Call}
-use Rattle.ossl_calls.specs.declared.call.Reply.{Reply}
-use Rattle.ossl_calls.specs.declared.call.Reply.TheVariants.{Done}
+use Rattle.ossl_state.specs.declared.call.Call.{Call}
+use Rattle.ossl_state.specs.declared.call.Reply.{Reply}
+use Rattle.ossl_state.specs.declared.call.Reply.TheVariants.{Done}
 use Rattle.ossl_calls.specs.Events.{Keeps}
-use Rattle.ossl_calls.specs.History.{Fixed, IsNext, state_after}
-use Rattle.ossl_calls.specs.Step.{with_default}
+use Rattle.ossl_state.specs.History.{Fixed, IsNext, state_after}
+use Rattle.ossl_state.specs.Step.{with_default}
 use Rattle.ossl_calls.proofs.EventLaws.{IsKept-keeps, kept-next, kept-sound}
 use Rattle.ossl_calls.proofs.FetchLaws.{default-keeps}
 use Rattle.ossl_calls.proofs.RoomLaws.{default-room, lent-more}

@@ -3,20 +3,20 @@ use Rattle.std.proofs.Math.ListN.{set}
 use Rattle.std.proofs.lemmas.List.{length-map}
 use Rattle.ossl_base.specs.declared.entry.Entry.{Entry}
 use Rattle.ossl_provider.specs.Sheet.{after_start}
-use Rattle.ossl_calls.specs.declared.call.Call.{Call}
-use Rattle.ossl_calls.specs.declared.call.Reply.{Reply}
-use Rattle.ossl_calls.specs.declared.state.State.{State}
-use Rattle.ossl_calls.specs.Boxes.{sheet_of}
+use Rattle.ossl_state.specs.declared.call.Call.{Call}
+use Rattle.ossl_state.specs.declared.call.Reply.{Reply}
+use Rattle.ossl_state.specs.declared.state.State.{State}
+use Rattle.ossl_state.specs.Boxes.{sheet_of}
 use Rattle.ossl_calls.specs.Events.{Refuses, Bears}
-use Rattle.ossl_calls.specs.History.{Fixed, IsNext, state_after}
-use Rattle.ossl_calls.specs.Sound.{giving_back}
+use Rattle.ossl_state.specs.History.{Fixed, IsNext, state_after}
+use Rattle.ossl_state.specs.Sound.{giving_back}
 use Rattle.ossl_calls.proofs.EventLaws.{IsKept-born, IsKept-refused, kept-next, may_start, placed}
 use Rattle.ossl_calls.proofs.UpLaws.{same_length}
 use Rattle.ossl_calls.proofs.RoomLaws.{lent-more, lent_with-few}
 use Rattle.ossl_calls.proofs.plain.PlainRegistry.start.Goals as goal
 
 pub start_at-requires-clause-fresh : goal.start_at-requires-clause-fresh
-start_at-requires-clause-fresh g c κs within =
+start_at-requires-clause-fresh g c =
     let inside = c.self.inside in
     let fixed : Fixed = record { facts = map g.P.Provider.facts inside.boxes.items; contexts = inside.contexts; opened = inside.opened.items } in
     let e : Entry Call Reply = record { caller = c.args.caller; call = c.args.call; reply = c.args.accepted } in
@@ -25,7 +25,7 @@ start_at-requires-clause-fresh g c κs within =
     (may_start fixed (map g.P.Provider.sheet inside.boxes.items) inside.state inside.history.items c.args.place c.self.invariant.0 here).fresh
 
 pub start_at-requires-clause-room : goal.start_at-requires-clause-room
-start_at-requires-clause-room g c κs within =
+start_at-requires-clause-room g c =
     let inside = c.self.inside in
     let fixed : Fixed = record { facts = map g.P.Provider.facts inside.boxes.items; contexts = inside.contexts; opened = inside.opened.items } in
     let e : Entry Call Reply = record { caller = c.args.caller; call = c.args.call; reply = c.args.accepted } in
@@ -35,7 +35,7 @@ start_at-requires-clause-room g c κs within =
     omega (arith, may.room)
 
 pub start_at-requires-clause-few : goal.start_at-requires-clause-few
-start_at-requires-clause-few g c κs within =
+start_at-requires-clause-few g c =
     let inside = c.self.inside in
     let fixed : Fixed = record { facts = map g.P.Provider.facts inside.boxes.items; contexts = inside.contexts; opened = inside.opened.items } in
     let e : Entry Call Reply = record { caller = c.args.caller; call = c.args.call; reply = c.args.accepted } in

@@ -1,25 +1,25 @@
 use Rattle.std.proofs.Common.{◌≡◌, ◌≤◌, ◌+◌, length, map, arith}
 use Rattle.std.proofs.lemmas.List.{length-map}
 use Rattle.ossl_base.specs.declared.entry.Entry.{Entry}
-use Rattle.ossl_calls.specs.declared.call.Call.{Call}
-use Rattle.ossl_calls.specs.declared.call.Reply.{Reply}
+use Rattle.ossl_state.specs.declared.call.Call.{Call}
+use Rattle.ossl_state.specs.declared.call.Reply.{Reply}
 use Rattle.ossl_calls.specs.Events.{Takes}
-use Rattle.ossl_calls.specs.Going.{answer_of, returned_by, without_going}
-use Rattle.ossl_calls.specs.History.{Fixed, IsNext, state_after}
-use Rattle.ossl_calls.specs.Sound.{giving_back, lent_after, lent_by}
+use Rattle.ossl_state.specs.Going.{answer_of, returned_by, without_going}
+use Rattle.ossl_state.specs.History.{Fixed, IsNext, state_after}
+use Rattle.ossl_state.specs.Sound.{giving_back, lent_after, lent_by}
 use Rattle.ossl_calls.proofs.EventLaws.{IsKept-takes, kept-next, kept-sound}
-use Rattle.ossl_calls.proofs.TokenLaws.{lent-push}
+use Rattle.ossl_state.proofs.TokenLaws.{lent-push}
 use Rattle.ossl_calls.proofs.UpLaws.{same_length}
 use Rattle.ossl_calls.proofs.plain.PlainRegistry.take_down.Goals as goal
 
 pub stop_going-requires-clause-distinct : goal.stop_going-requires-clause-distinct
-stop_going-requires-clause-distinct g c κs within =
+stop_going-requires-clause-distinct g c =
     let inside = c.self.inside in
     let fixed : Fixed = record { facts = map g.P.Provider.facts inside.boxes.items; contexts = inside.contexts; opened = inside.opened.items } in
     (kept-sound fixed (map g.P.Provider.sheet inside.boxes.items) inside.state inside.history.items c.self.invariant.0).instances.distinct
 
 pub stop_going-requires-clause-places : goal.stop_going-requires-clause-places
-stop_going-requires-clause-places g c κs within =
+stop_going-requires-clause-places g c =
     let inside = c.self.inside in
     let fixed : Fixed = record { facts = map g.P.Provider.facts inside.boxes.items; contexts = inside.contexts; opened = inside.opened.items } in
     let places = (kept-sound fixed (map g.P.Provider.sheet inside.boxes.items) inside.state inside.history.items c.self.invariant.0).instances.places in

@@ -1,13 +1,13 @@
 use Rattle.std.proofs.Common.{map, IsTrue}
-use Rattle.ossl_calls.specs.History.{Fixed, state_after}
-use Rattle.ossl_calls.specs.Step.{holder_of}
-use Rattle.ossl_calls.specs.Tokens.{owns, entries_of, activation_token}
-use Rattle.ossl_calls.proofs.LegalLaws.{sound_after}
+use Rattle.ossl_state.specs.History.{Fixed, state_after}
+use Rattle.ossl_state.specs.Step.{holder_of}
+use Rattle.ossl_state.specs.Tokens.{owns, entries_of, activation_token}
+use Rattle.ossl_state.proofs.LegalLaws.{sound_after}
 use Rattle.ossl_calls.proofs.RoomLaws.{returned-room}
 use Rattle.ossl_calls.proofs.plain.PlainRegistry.unload.Goals as goal
 
 pub take_down-requires-clause-returned : goal.take_down-requires-clause-returned
-take_down-requires-clause-returned g c κs within =
+take_down-requires-clause-returned g c =
     let inside = c.self.inside in
     let fixed : Fixed = record { facts = map g.P.Provider.facts inside.boxes.items; contexts = inside.contexts; opened = inside.opened.items } in
     let s = state_after fixed inside.history.items in

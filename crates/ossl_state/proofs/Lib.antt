@@ -1,0 +1,11 @@
+-- Lemmas that several proofs share.
+pub mod ListLaws
+pub mod ActiveLaws
+pub mod SoundLaws
+pub mod ChoiceLaws
+pub mod HistoryLaws
+pub mod TokenLaws
+pub mod LegalLaws
+pub mod RowsLaws
+pub mod WorkedRows
+pub mod WorkedLoads

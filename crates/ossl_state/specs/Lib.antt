@@ -1,0 +1,11 @@
+-- What the contracts of a registry cite.
+pub mod Boxes
+pub mod Rows
+pub mod State
+pub mod Best
+pub mod Tokens
+pub mod Step
+pub mod History
+pub mod Sound
+pub mod Going
+pub mod Text

@@ -1,0 +1,153 @@
+ghost use Rattle.std.specs.Prelude.{◌≡◌, ◌++◌, OnOk, OnErr, codes};
+ghost use Rattle.std.specs.Fmt.{decimal};
+ghost use Rattle.ossl_property.specs.Printed.{printed_query};
+ghost use Rattle.ossl_state.specs.Text.{call_text, reply_text, entry_text, inner_text, operation_text, retain_text};
+
+use crate::call::{Call, Entry, Reply};
+use ossl_base::digits::put_decimal;
+use ossl_codes::Operation;
+use ossl_property::Query;
+use std::alloc::{AllocError, Global};
+
+/// Appends the text of an entry as a printed run shows it: the call's text, `: ` and the reply's, with the numbers that
+/// stand in the entry.
+pub fn put_entry(alloc: Global, out: &mut Vec<u8>, entry: &Entry) -> Result<(), AllocError>
+    ensures ok { OnOk result (out.new.items ≡ out.old.items ++ entry_text entry.now) }
+    ensures err { OnErr result (out.new.items ≡ out.old.items) }
+{
+    let mut text = Vec::new(alloc);
+    put_call(alloc, &mut text, &entry.call)?;
+    text.extend_from_slice(b": ")?;
+    put_reply(alloc, &mut text, &entry.reply)?;
+    out.extend_from_slice(text.as_slice())
+}
+
+/// Appends a text and a number in decimal digits. Where memory is refused, what stands behind the old bytes is not said.
+pub fn put_numbered(alloc: Global, out: &mut Vec<u8>, text: &[u8], n: u64) -> Result<(), AllocError>
+    ensures { OnOk result (out.new.items ≡ out.old.items ++ text.now ++ decimal n) }
+{
+    out.extend_from_slice(text)?;
+    put_decimal(alloc, out, n)
+}
+
+fn operation_name(op: Operation) -> &'static [u8]
+    ensures { result.now ≡ operation_text op }
+{
+    match op {
+        Operation::Digest => b"digest",
+        Operation::Cipher => b"cipher",
+        Operation::Mac => b"mac",
+        Operation::Kdf => b"kdf",
+    }
+}
+
+/// What stands behind a load that keeps the fallback.
+fn retain_word(retain: bool) -> &'static [u8]
+    ensures { result.now ≡ retain_text retain }
+{
+    if retain { b" retain" } else { b"" }
+}
+
+/// Appends the text of a call. Where memory is refused, what stands behind the old bytes is not said; `put_entry` appends nothing
+/// then.
+pub fn put_call(alloc: Global, out: &mut Vec<u8>, call: &Call) -> Result<(), AllocError>
+    ensures { OnOk result (out.new.items ≡ out.old.items ++ call_text call.now) }
+{
+    match call {
+        Call::Load { lib, name, retain } => {
+            put_numbered(alloc, out, b"load ", *lib)?;
+            out.extend_from_slice(b" ")?;
+            out.extend_from_slice(name.as_slice())?;
+            out.extend_from_slice(retain_word(*retain))
+        }
+        Call::Unload { token } => put_numbered(alloc, out, b"unload ", *token),
+        Call::SetDefault { lib, query } => {
+            put_numbered(alloc, out, b"default ", *lib)?;
+            put_query(alloc, out, query)
+        }
+        Call::Fetch {
+            lib,
+            op,
+            name,
+            query,
+        } => {
+            put_numbered(alloc, out, b"fetch ", *lib)?;
+            out.extend_from_slice(b" ")?;
+            out.extend_from_slice(operation_name(*op))?;
+            out.extend_from_slice(b" ")?;
+            out.extend_from_slice(name.as_slice())?;
+            put_query(alloc, out, query)
+        }
+        Call::UpRef { handle } => put_numbered(alloc, out, b"upref ", *handle),
+        Call::Free { handle } => put_numbered(alloc, out, b"free ", *handle),
+        Call::NewCtx {
+            handle,
+            inner,
+            key_len,
+        } => {
+            put_numbered(alloc, out, b"newctx ", *handle)?;
+            put_inner(alloc, out, *inner)?;
+            put_numbered(alloc, out, b" ", *key_len)
+        }
+        Call::FreeCtx { handle } => put_numbered(alloc, out, b"freectx ", *handle),
+        Call::CloseLib { lib } => put_numbered(alloc, out, b"closelib ", *lib),
+    }
+}
+
+/// Appends a space and the printed form of a query in brackets.
+fn put_query(alloc: Global, out: &mut Vec<u8>, query: &Query) -> Result<(), AllocError>
+    ensures { OnOk result (out.new.items ≡ out.old.items ++ codes " [" ++ printed_query query.now ++ codes "]") }
+{
+    let text = query.print(alloc)?;
+    out.extend_from_slice(b" [")?;
+    out.extend_from_slice(text.as_slice())?;
+    out.extend_from_slice(b"]")
+}
+
+/// Appends a space and the token of an inner method, or a dash where there is none.
+fn put_inner(alloc: Global, out: &mut Vec<u8>, inner: Option<u64>) -> Result<(), AllocError>
+    ensures { OnOk result (out.new.items ≡ out.old.items ++ codes " " ++ inner_text inner) }
+{
+    match inner {
+        Some(token) => put_numbered(alloc, out, b" ", token),
+        None => out.extend_from_slice(b" -"),
+    }
+}
+
+/// Appends the text of a reply. Where memory is refused, what stands behind the old bytes is not said; `put_entry` appends nothing
+/// then.
+pub fn put_reply(alloc: Global, out: &mut Vec<u8>, reply: &Reply) -> Result<(), AllocError>
+    ensures { OnOk result (out.new.items ≡ out.old.items ++ reply_text reply.now) }
+{
+    match reply {
+        Reply::Loaded {
+            number: _,
+            instance,
+            skipped,
+        } => {
+            put_numbered(alloc, out, b"ok ", *instance)?;
+            put_numbered(alloc, out, b" skipped ", *skipped)
+        }
+        Reply::Fetched {
+            number: _,
+            provider,
+            instance,
+            row,
+            code: _,
+        } => {
+            out.extend_from_slice(b"ok ")?;
+            out.extend_from_slice(provider.as_slice())?;
+            put_numbered(alloc, out, b" ", *instance)?;
+            put_numbered(alloc, out, b" ", *row)
+        }
+        Reply::Made { number: _ } | Reply::Done => out.extend_from_slice(b"ok"),
+        Reply::NoLib => out.extend_from_slice(b"no context"),
+        Reply::NoProvider => out.extend_from_slice(b"no provider"),
+        Reply::StartRefused { provider } => {
+            out.extend_from_slice(b"start refused ")?;
+            out.extend_from_slice(provider.as_slice())
+        }
+        Reply::Unsupported => out.extend_from_slice(b"unsupported"),
+        Reply::NotAdmitted => out.extend_from_slice(b"not admitted"),
+    }
+}
