@@ -16,8 +16,12 @@ use Rattle.ossl_commands.specs.Judging.{commands_of}
 abbrev line : ℕ → ℕ → Command → Line
 line number caller command = record { number = number; caller = caller; command = command }
 
+-- a text says these commands and names these files
+abbrev says_with : List ℕ → List (List ℕ) → List Line → Type 0
+says_with text files lines = commands_of text ≡ Ok (record { lines = lines; files = files })
+
 abbrev says : List ℕ → List Line → Type 0
-says text commands = commands_of text ≡ Ok commands
+says text lines = says_with text [] lines
 
 abbrev dgst : List ℕ → List Argument → List ℕ → Command
 dgst algorithm arguments query = Perform operations.Digest algorithm arguments query
@@ -121,11 +125,11 @@ unfolding decode_pairs
 two_callers = refl
 
 -- a cipher, a code with an inner cipher, and a digest of a file
-pub other_operations : says (codes "1 load 0 legacy L\n1 enc RC4 key=text:Key text:Plaintext\n1 mac CMAC cipher=AES-128-CBC key=hex:2b7e\n1 dgst SHA2-256 file:abc.txt") (
+pub other_operations : says_with (codes "1 load 0 legacy L\n1 enc RC4 key=text:Key text:Plaintext\n1 mac CMAC cipher=AES-128-CBC key=hex:2b7e\n1 dgst SHA2-256 file:abc.txt") (codes "abc.txt" ∷ []) (
     line 1 1 (Load 0 (codes "legacy") (codes "L") false)
     ∷ line 2 1 (Perform operations.Cipher (codes "RC4") (Key (Bytes (codes "Key")) ∷ Piece (Bytes (codes "Plaintext")) ∷ []) [])
     ∷ line 3 1 (Perform operations.Mac (codes "CMAC") (Cipher (codes "AES-128-CBC") ∷ Key (Bytes (43 ∷ 126 ∷ [])) ∷ []) [])
-    ∷ line 4 1 (dgst (codes "SHA2-256") (Piece (File (codes "abc.txt")) ∷ []) [])
+    ∷ line 4 1 (dgst (codes "SHA2-256") (Piece (File 0) ∷ []) [])
     ∷ []
     )
 unfolding decode_pairs
@@ -156,14 +160,14 @@ unfolding decode_pairs
 options_anywhere = refl
 
 -- a key derivation, and an operation context with an inner method
-pub derivation : says (codes "1 kdf HKDF digest=MD5 mode=expand key=hex: salt=text:s info=file:i len=0\n1 open M_1 X inner=D key=hex:") (
+pub derivation : says_with (codes "1 kdf HKDF digest=MD5 mode=expand key=hex: salt=text:s info=file:i len=0\n1 open M_1 X inner=D key=hex:") (codes "i" ∷ []) (
     line 1 1 (
     Perform operations.Kdf (codes "HKDF") (
     Digest (codes "MD5")
     ∷ Mode Expand
     ∷ Key (Bytes [])
     ∷ Salt (Bytes (codes "s"))
-    ∷ Info (File (codes "i"))
+    ∷ Info (File 0)
     ∷ Len 0
     ∷ []
     ) []

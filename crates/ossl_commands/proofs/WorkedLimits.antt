@@ -2,24 +2,23 @@
 use Rattle.std.proofs.Common.{◌≡◌, ℕ, List, [], ◌∷◌, ◌++◌, refl}
 use Rattle.std.specs.Prelude.{codes, Some, None, Ok, Result, Option, flat_map, replicate}
 use Rattle.hex.specs.Hex.{decode_pairs}
-use Rattle.ossl_commands.specs.declared.command.Line as commands
 use Rattle.ossl_commands.specs.declared.limit.Limit.{Limit}
 use Rattle.ossl_commands.specs.declared.limit.Limit.TheVariants.{Lines, Callers, Contexts, Line, Total, File}
-use Rattle.ossl_commands.specs.Judging.{Fault, ◌>>=◌, commands_of}
-use Rattle.ossl_commands.specs.Counts.{line_count, callers_of, contexts_of, files_of}
+use Rattle.ossl_commands.specs.Judging.{Commands, Fault, ◌>>=◌, commands_of}
+use Rattle.ossl_commands.specs.Counts.{line_count, callers_of, contexts_of}
 use Rattle.ossl_commands.specs.Fits.{passed_limit}
 
 -- what a batch amounts to: its lines, callers, library contexts and files
 abbrev amounts_to : List ℕ → ℕ → ℕ → ℕ → List (List ℕ) → Type 0
 amounts_to text all callers contexts files =
-    let amounts : List commands.Line → Result (ℕ × ℕ × ℕ × List (List ℕ)) Fault =
-    λ commands. Ok (line_count text, callers_of commands, contexts_of commands, files_of commands)
+    let amounts : Commands → Result (ℕ × ℕ × ℕ × List (List ℕ)) Fault =
+    λ commands. Ok (line_count text, callers_of commands.lines, contexts_of commands.lines, commands.files)
     in
     (commands_of text >>= amounts) ≡ Ok (all, callers, contexts, files)
 
 -- the first limit that a batch passes with these lengths of its files
 abbrev passes : List ℕ → List ℕ → Option Limit → Type 0
-passes text lengths limit = (commands_of text >>= λ commands. Ok (passed_limit (line_count text) commands lengths)) ≡ Ok limit
+passes text lengths limit = (commands_of text >>= λ commands. Ok (passed_limit (line_count text) commands.lines lengths)) ≡ Ok limit
 
 pub nothing : amounts_to [] 0 0 1 []
 nothing = refl

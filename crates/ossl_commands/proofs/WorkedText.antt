@@ -90,52 +90,56 @@ name_digit_first = refl
 pub name_dash : is_name (codes "a-b") ≡ false
 name_dash = refl
 
-pub hex_data : data_of (codes "hex:00fF") ≡ Some (Bytes (0 ∷ 255 ∷ []))
+pub hex_data : data_of [] (codes "hex:00fF") ≡ Some (Bytes (0 ∷ 255 ∷ []), [])
 unfolding decode_pairs
 hex_data = refl
 
-pub hex_none : data_of (codes "hex:") ≡ Some (Bytes [])
+pub hex_none : data_of [] (codes "hex:") ≡ Some (Bytes [], [])
 unfolding decode_pairs
 hex_none = refl
 
-pub hex_odd : data_of (codes "hex:0") ≡ None
+pub hex_odd : data_of [] (codes "hex:0") ≡ None
 hex_odd = refl
 
-pub hex_bad : data_of (codes "hex:0g") ≡ None
+pub hex_bad : data_of [] (codes "hex:0g") ≡ None
 unfolding decode_pairs
 hex_bad = refl
 
-pub text_data : data_of (codes "text:a=b:c") ≡ Some (Bytes (codes "a=b:c"))
+pub text_data : data_of [] (codes "text:a=b:c") ≡ Some (Bytes (codes "a=b:c"), [])
 text_data = refl
 
 -- the digits of the byte may be of either case, and there are two of them
-pub copies_data : data_of (codes "rep:131:aA") ≡ Some (Copies 131 170)
+pub copies_data : data_of [] (codes "rep:131:aA") ≡ Some (Copies 131 170, [])
 unfolding decode_pairs
 copies_data = refl
 
-pub copies_of_none : data_of (codes "rep:0:00") ≡ Some (Copies 0 0)
+pub copies_of_none : data_of [] (codes "rep:0:00") ≡ Some (Copies 0 0, [])
 unfolding decode_pairs
 copies_of_none = refl
 
-pub copies_leading_zero : data_of (codes "rep:01:00") ≡ None
+pub copies_leading_zero : data_of [] (codes "rep:01:00") ≡ None
 unfolding decode_pairs
 copies_leading_zero = refl
 
-pub copies_two_bytes : data_of (codes "rep:1:0000") ≡ None
+pub copies_two_bytes : data_of [] (codes "rep:1:0000") ≡ None
 unfolding decode_pairs
 copies_two_bytes = refl
 
-pub copies_without_byte : data_of (codes "rep:1") ≡ None
+pub copies_without_byte : data_of [] (codes "rep:1") ≡ None
 copies_without_byte = refl
 
-pub file_data : data_of (codes "file:abc.txt") ≡ Some (File (codes "abc.txt"))
+pub file_data : data_of (codes "a" ∷ []) (codes "file:abc.txt") ≡ Some (File 1, codes "a" ∷ codes "abc.txt" ∷ [])
 file_data = refl
 
-pub file_without_name : data_of (codes "file:") ≡ None
+-- a file that is named already keeps its place
+pub file_again : data_of (codes "a" ∷ codes "b" ∷ []) (codes "file:a") ≡ Some (File 0, codes "a" ∷ codes "b" ∷ [])
+file_again = refl
+
+pub file_without_name : data_of [] (codes "file:") ≡ None
 file_without_name = refl
 
 -- the forms are in lower case
-pub form_in_capitals : data_of (codes "HEX:00") ≡ None
+pub form_in_capitals : data_of [] (codes "HEX:00") ≡ None
 form_in_capitals = refl
 
 pub option_cut : option_word (codes "key=text:a=b") ≡ Some (codes "key", codes "text:a=b")

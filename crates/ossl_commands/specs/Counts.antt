@@ -1,15 +1,12 @@
--- How much a batch names: its lines, callers, library contexts and files.
-use Rattle.std.specs.Prelude.{ℕ, ◌+◌, max, not, Option, Some, None, List, [], ◌∷◌, length, map, fold, filter, filter_map, flat_map, zip, unwrap_or, option_and_then}
-use Rattle.std.specs.Str.{bytes_eq}
+-- How much a batch names: its lines, callers and library contexts.
+use Rattle.std.specs.Prelude.{ℕ, ◌+◌, max, Option, Some, None, List, [], ◌∷◌, length, map, fold, filter_map, flat_map}
 use Rattle.std.specs.Str.Lines.{lines}
 use Rattle.ossl_commands.specs.declared.command.Argument.{Argument}
 use Rattle.ossl_commands.specs.declared.command.Argument.TheVariants.{Piece, Lib, Key, Iv, Salt, Info}
 use Rattle.ossl_commands.specs.declared.command.Command.{Command}
 use Rattle.ossl_commands.specs.declared.command.Command.TheVariants.{Load, Default, Fetch, Open, Feed, CloseLib, Perform}
 use Rattle.ossl_commands.specs.declared.command.Data.{Data}
-use Rattle.ossl_commands.specs.declared.command.Data.TheVariants.{File}
 use Rattle.ossl_commands.specs.declared.command.Line.{Line}
-use Rattle.ossl_commands.specs.Words.{looked_up}
 
 -- the greatest of these numbers, 0 where there are none
 abbrev pub greatest : List ℕ → ℕ
@@ -54,20 +51,3 @@ data_in (Iv given) = Some given
 data_in (Salt given) = Some given
 data_in (Info given) = Some given
 data_in argument = None
-
-abbrev pub file_in : Data → Option (List ℕ)
-file_in (File name) = Some name
-file_in given = None
-
--- each text once, at its first place
-abbrev pub distinct : List (List ℕ) → List (List ℕ)
-distinct [] = []
-distinct (text ∷ texts) = text ∷ filter (λ other. not (bytes_eq text other)) (distinct texts)
-
--- the files that a batch names, distinct, in the order of their first naming; options and data count alike, from the left
-abbrev pub files_of : List Line → List (List ℕ)
-files_of commands = distinct (flat_map (λ line. filter_map (λ argument. option_and_then file_in (data_in argument)) (arguments_in line.command)) commands)
-
--- what a list has for a file, in the order in which files are named
-abbrev pub for_file : {A : Type 0} → A → List (List ℕ) → List A → List ℕ → A
-for_file other files values name = unwrap_or (looked_up (zip files values) name) other

@@ -1,7 +1,7 @@
 -- What a single word says: a number, a caller, a name, data, or an option with its value.
-use Rattle.std.specs.Prelude.{ℕ, ◌==◌, nat_lt, Bool, true, false, ◌&&◌, ◌||◌, Option, Some, None, List, [], ◌∷◌, length, codes, option_map, option_and_then, find, if◌then◌else◌}
+use Rattle.std.specs.Prelude.{ℕ, ◌==◌, nat_lt, Bool, true, false, ◌&&◌, ◌||◌, Option, Some, None, List, [], ◌∷◌, ◌++◌, length, codes, option_map, option_and_then, find, if◌then◌else◌}
 use Rattle.std.specs.Char.{is_ascii_alphabetic, is_ascii_alphanumeric, is_ascii_lowercase}
-use Rattle.std.specs.List.{list_all}
+use Rattle.std.specs.List.{list_all, list_any, position_or_len}
 use Rattle.std.specs.Result.{result_ok}
 use Rattle.std.specs.Str.{bytes_eq}
 use Rattle.hex.specs.Hex.{decode_of}
@@ -14,6 +14,8 @@ use Rattle.ossl_commands.specs.declared.command.Data.{Data}
 use Rattle.ossl_commands.specs.declared.command.Data.TheVariants.{Bytes, Copies, File}
 use Rattle.ossl_commands.specs.declared.command.Argument.{Argument}
 use Rattle.ossl_commands.specs.declared.command.Argument.TheVariants.{Piece, Retain, Lib, Digest, Cipher, Inner, Key, Iv, Direction as Way, Pad, Salt, Info, Mode, Len}
+use Rattle.ossl_commands.specs.declared.option.OptionKind.{OptionKind}
+use Rattle.ossl_commands.specs.declared.option.OptionKind.TheVariants as kinds
 
 -- what a table has for a word
 abbrev pub looked_up : {A : Type 0} → List (List ℕ × A) → List ℕ → Option A
@@ -77,37 +79,78 @@ abbrev pub copies_of : Option ℕ → Option (List ℕ) → Option Data
 copies_of (Some count) (Some (byte ∷ [])) = Some (Copies count byte)
 copies_of count bytes = None
 
--- the forms of data: `hex:DIGITS`, `text:BYTES`, `rep:N:HH` and `file:NAME`
-abbrev pub data_forms : List (List ℕ × (List ℕ → Option Data))
-data_forms =
-    (codes "hex", λ text. option_map Bytes (hex_of text))
-    ∷ (codes "text", λ text. Some (Bytes text))
-    ∷ (codes "rep", λ text. option_and_then (λ parts. copies_of (number_of parts.0) (hex_of parts.1)) (cut_at 58 text))
-    ∷ (codes "file", λ text. option_map File (some_text text))
+-- files by their names, each once, in the order of their first naming
+abbrev pub Files : Type 0
+Files = List (List ℕ)
+
+-- the place of a file among these; one that is not among them comes behind them
+abbrev pub place_of : Files → List ℕ → ℕ
+place_of files name = position_or_len (bytes_eq name) files
+
+-- these files when one more is named
+abbrev pub with_file : Files → List ℕ → Files
+with_file files name = if list_any (bytes_eq name) files then files else files ++ name ∷ []
+
+-- what a word says that names no file, with the files that are named by then
+abbrev pub plain : {A : Type 0} → Files → Option A → Option (A × Files)
+plain files said = option_map (λ value. (value, files)) said
+
+-- a file that is named, by its place, with the files that are named by then
+abbrev pub named : Files → List ℕ → Data × Files
+named files name = (File (place_of files name), with_file files name)
+
+-- the forms of data, where these files are named before: `hex:DIGITS`, `text:BYTES`, `rep:N:HH` and `file:NAME`
+abbrev pub data_forms : Files → List (List ℕ × (List ℕ → Option (Data × Files)))
+data_forms files =
+    (codes "hex", λ text. plain files (option_map Bytes (hex_of text)))
+    ∷ (codes "text", λ text. plain files (Some (Bytes text)))
+    ∷ (codes "rep", λ text. plain files (option_and_then (λ parts. copies_of (number_of parts.0) (hex_of parts.1)) (cut_at 58 text)))
+    ∷ (codes "file", λ text. option_map (named files) (some_text text))
     ∷ []
 
-abbrev pub data_of : List ℕ → Option Data
-data_of word = option_and_then (λ parts. option_and_then (λ form. form parts.1) (looked_up data_forms parts.0)) (cut_at 58 word)
+abbrev pub data_of : Files → List ℕ → Option (Data × Files)
+data_of files word = option_and_then (λ parts. option_and_then (λ form. form parts.1) (looked_up (data_forms files) parts.0)) (cut_at 58 word)
 
--- the options, and how the value of each is read
-abbrev pub option_forms : List (List ℕ × (List ℕ → Option Argument))
-option_forms =
-    (codes "lib", λ value. option_map Lib (number_of value))
-    ∷ (codes "digest", λ value. option_map Digest (some_text value))
-    ∷ (codes "cipher", λ value. option_map Cipher (some_text value))
-    ∷ (codes "inner", λ value. option_map Inner (name_of value))
-    ∷ (codes "key", λ value. option_map Key (data_of value))
-    ∷ (codes "iv", λ value. option_map Iv (data_of value))
-    ∷ (codes "dir", λ value. option_map Way (looked_up ((codes "encrypt", Encrypt) ∷ (codes "decrypt", Decrypt) ∷ []) value))
-    ∷ (codes "pad", λ value. option_map Pad (looked_up ((codes "yes", true) ∷ (codes "no", false) ∷ []) value))
-    ∷ (codes "salt", λ value. option_map Salt (data_of value))
-    ∷ (codes "info", λ value. option_map Info (data_of value))
-    ∷ (codes "mode", λ value. option_map Mode (looked_up ((codes "both", Both) ∷ (codes "extract", Extract) ∷ (codes "expand", Expand) ∷ []) value))
-    ∷ (codes "len", λ value. option_map Len (number_of value))
+-- an argument that data makes
+abbrev pub from_data : (Data → Argument) → Option (Data × Files) → Option (Argument × Files)
+from_data make read = option_map (λ read. (make read.0, read.1)) read
+
+-- the options by their names
+abbrev pub option_kind_of : List ℕ → Option OptionKind
+option_kind_of =
+    looked_up (
+    (codes "lib", kinds.Lib)
+    ∷ (codes "digest", kinds.Digest)
+    ∷ (codes "cipher", kinds.Cipher)
+    ∷ (codes "inner", kinds.Inner)
+    ∷ (codes "key", kinds.Key)
+    ∷ (codes "iv", kinds.Iv)
+    ∷ (codes "dir", kinds.Direction)
+    ∷ (codes "pad", kinds.Pad)
+    ∷ (codes "salt", kinds.Salt)
+    ∷ (codes "info", kinds.Info)
+    ∷ (codes "mode", kinds.Mode)
+    ∷ (codes "len", kinds.Len)
     ∷ []
+    )
 
-abbrev pub option_of : List ℕ → List ℕ → Option Argument
-option_of name value = option_and_then (λ form. form value) (looked_up option_forms name)
+-- how the value of each is read
+abbrev pub option_form : OptionKind → Files → List ℕ → Option (Argument × Files)
+option_form kinds.Lib files value = plain files (option_map Lib (number_of value))
+option_form kinds.Digest files value = plain files (option_map Digest (some_text value))
+option_form kinds.Cipher files value = plain files (option_map Cipher (some_text value))
+option_form kinds.Inner files value = plain files (option_map Inner (name_of value))
+option_form kinds.Key files value = from_data Key (data_of files value)
+option_form kinds.Iv files value = from_data Iv (data_of files value)
+option_form kinds.Direction files value = plain files (option_map Way (looked_up ((codes "encrypt", Encrypt) ∷ (codes "decrypt", Decrypt) ∷ []) value))
+option_form kinds.Pad files value = plain files (option_map Pad (looked_up ((codes "yes", true) ∷ (codes "no", false) ∷ []) value))
+option_form kinds.Salt files value = from_data Salt (data_of files value)
+option_form kinds.Info files value = from_data Info (data_of files value)
+option_form kinds.Mode files value = plain files (option_map Mode (looked_up ((codes "both", Both) ∷ (codes "extract", Extract) ∷ (codes "expand", Expand) ∷ []) value))
+option_form kinds.Len files value = plain files (option_map Len (number_of value))
+
+abbrev pub option_of : Files → List ℕ → List ℕ → Option (Argument × Files)
+option_of files name value = option_and_then (λ kind. option_form kind files value) (option_kind_of name)
 
 -- the name of an option; other arguments have none
 abbrev pub option_name : Argument → List ℕ

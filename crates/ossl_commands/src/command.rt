@@ -1,5 +1,7 @@
 //! What a line of a batch says.
 
+ghost use Rattle.std.specs.Prelude.{◌≡◌};
+
 use ossl_base::text::{Bytes, Text};
 use ossl_codes::{Direction, KdfMode, Operation};
 use std::marker::Model;
@@ -30,9 +32,9 @@ pub enum Data {
     /// `hex:` and digits, or `text:` and the bytes themselves.
     Bytes(Bytes),
     /// `rep:N:HH`: so many times this byte.
-    Copies { count: u64, byte: u8 },
-    /// `file:NAME`: what the file of this name holds.
-    File(Text),
+    Copies { count: u32, byte: u8 },
+    /// `file:NAME`: what the file of this place among the files of the batch holds.
+    File(u64),
 }
 
 /// A word behind the fixed words of a command.
@@ -43,7 +45,7 @@ pub enum Argument {
     /// `retain`
     Retain,
     /// `lib=`, the number of a library context.
-    Lib(u64),
+    Lib(u32),
     /// `digest=`, the name of an inner digest.
     Digest(Text),
     /// `cipher=`, the name of an inner cipher.
@@ -65,7 +67,7 @@ pub enum Argument {
     /// `mode=`
     Mode(KdfMode),
     /// `len=`, a number of bytes.
-    Len(u64),
+    Len(u32),
 }
 
 /// The words behind the fixed words of a command, from the left; each option stands at most once.
@@ -83,13 +85,29 @@ impl Model for Arguments {
     ghost view = { λ a. a.arguments.items };
 }
 
+impl Arguments {
+    /// These words.
+    pub fn of(arguments: Vec<Argument>) -> Arguments
+        ensures arguments { result ≡ arguments.items }
+    {
+        Arguments { arguments }
+    }
+
+    /// The words, from the left.
+    pub fn as_slice(&self) -> &[Argument]
+        ensures arguments { result.now ≡ self.now }
+    {
+        self.arguments.as_slice()
+    }
+}
+
 /// A command. A name is one that the caller binds to a token; `lib` is the number of a library context; a query is the
 /// text behind `:`, which is read when the command runs, and empty where there is none.
 #[derive(Drop)]
 pub enum Command {
     /// Loads a provider and binds the activation; with `retain` the fallback stays armed.
     Load {
-        lib: u64,
+        lib: u32,
         provider: Text,
         name: Text,
         retain: bool,
@@ -100,12 +118,12 @@ pub enum Command {
     },
     /// Sets the default query.
     Default {
-        lib: u64,
+        lib: u32,
         query: Text,
     },
     /// Fetches a method and binds it.
     Fetch {
-        lib: u64,
+        lib: u32,
         operation: Operation,
         algorithm: Text,
         name: Text,
@@ -141,7 +159,7 @@ pub enum Command {
     },
     /// Closes a library context.
     CloseLib {
-        lib: u64,
+        lib: u32,
     },
     /// A whole operation, from the fetch to its bytes: `dgst`, `mac`, `enc` or `kdf`.
     Perform {
@@ -158,15 +176,15 @@ pub struct Line {
     /// Its number in the text, from 1; all lines are counted.
     pub number: u64,
     /// The caller that it belongs to, from 1.
-    pub caller: u64,
+    pub caller: u32,
     pub command: Command,
 }
 
 impl Line {
-    ghost use Rattle.std.specs.Prelude.{◌≡◌, nat_eq};
+    ghost use Rattle.std.specs.Prelude.{nat_eq};
 
     /// Whether the line is this caller's.
-    pub fn is_of(&self, caller: u64) -> bool
+    pub fn is_of(&self, caller: u32) -> bool
         ensures own { result ≡ nat_eq self.now.caller caller }
     {
         self.caller == caller

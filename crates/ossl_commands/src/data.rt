@@ -1,18 +1,18 @@
 //! Data as a word says it.
 
-ghost use Rattle.std.specs.Prelude.{◌≡◌, ◌++◌, [], IfOk, OnErr, OnOk, option_map, option_and_then};
-ghost use Rattle.ossl_commands.specs.Counts.{for_file};
-ghost use Rattle.ossl_commands.specs.Contents.{data_bytes};
-ghost use Rattle.ossl_commands.specs.Words.{cut_at, data_of, data_forms, hex_of, copies_of, looked_up, number_of, some_text};
+ghost use Rattle.std.specs.Prelude.{◌≡◌, ◌++◌, IfOk, OnErr, OnOk, option_map, option_and_then, replicate};
+ghost use Rattle.ossl_commands.specs.Contents.{content_by, data_bytes};
+ghost use Rattle.ossl_commands.specs.Words.{cut_at, data_of, data_forms, hex_of, copies_of, looked_up, named, number_of, plain, some_text};
 
 use crate::command::Data;
+use crate::files::NamedFiles;
 use crate::word::number;
 use hex::FromHexError;
-use ossl_base::text::{Bytes, Text};
+use ossl_base::text::Bytes;
 use std::alloc::{AllocError, Global};
 
 /// What stands before the first such byte and behind it.
-fn cut_at(text: &[u8], separator: u8) -> Option<(&[u8], &[u8])>
+pub fn cut_at(text: &[u8], separator: u8) -> Option<(&[u8], &[u8])>
     ensures { option_map (λ parts. (parts.0.now, parts.1.now)) result ≡ cut_at separator text.now }
 {
     for (i, byte) in text.iter().enumerate() {
@@ -52,18 +52,24 @@ fn copies(alloc: Global, text: &[u8]) -> Result<Option<Data>, AllocError>
 }
 
 /// The file of a name, which is not empty.
-fn file(alloc: Global, name: &[u8]) -> Result<Option<Data>, AllocError>
-    ensures { IfOk result (λ given. given ≡ option_map Data.File (some_text name.now)) }
+fn file(alloc: Global, files: &mut NamedFiles, name: &[u8]) -> Result<Option<Data>, AllocError>
+    ensures { IfOk result (λ read. option_map (λ said. (said, files.new)) read ≡ option_map (named files.old) (some_text name.now)) }
 {
     match name {
         [] => Ok(None),
-        _ => Ok(Some(Data::File(Text::of(Vec::from_slice(alloc, name)?)))),
+        _ => Ok(Some(Data::File(files.place(alloc, name)?))),
     }
 }
 
 /// What a form of data says with the text behind its `:`.
-fn read_form(alloc: Global, form: &[u8], text: &[u8]) -> Result<Option<Data>, AllocError>
-    ensures { IfOk result (λ given. given ≡ option_and_then (λ form. form text.now) (looked_up data_forms form.now)) }
+fn read_form(
+    alloc: Global,
+    files: &mut NamedFiles,
+    form: &[u8],
+    text: &[u8],
+) -> Result<Option<Data>, AllocError>
+    ensures { IfOk result (λ read. option_map (λ said. (said, files.new)) read
+        ≡ option_and_then (λ form. form text.now) (looked_up (data_forms files.old) form.now)) }
 {
     if form == b"hex".as_slice() {
         match digits(alloc, text)? {
@@ -75,7 +81,7 @@ fn read_form(alloc: Global, form: &[u8], text: &[u8]) -> Result<Option<Data>, Al
     } else if form == b"rep".as_slice() {
         copies(alloc, text)
     } else if form == b"file".as_slice() {
-        file(alloc, text)
+        file(alloc, files, text)
     } else {
         Ok(None)
     }
@@ -83,50 +89,44 @@ fn read_form(alloc: Global, form: &[u8], text: &[u8]) -> Result<Option<Data>, Al
 
 impl Data {
     /// The data that a word says: `hex:DIGITS`, `text:BYTES`, `rep:N:HH` or `file:NAME`.
-    pub fn of(alloc: Global, word: &[u8]) -> Result<Option<Data>, AllocError>
-        ensures data { IfOk result (λ given. given ≡ data_of word.now) }
+    pub fn of(
+        alloc: Global,
+        files: &mut NamedFiles,
+        word: &[u8],
+    ) -> Result<Option<Data>, AllocError>
+        ensures data { IfOk result (λ read. option_map (λ said. (said, files.new)) read ≡ data_of files.old word.now) }
     {
         match cut_at(word, b':') {
-            Some((form, text)) => read_form(alloc, form, text),
+            Some((form, text)) => read_form(alloc, files, form, text),
             None => Ok(None),
         }
     }
 
-    /// Appends the bytes that the data stands for, where the files of these names have these contents; a file that is not among them has none.
-    pub fn put(
-        &self,
-        alloc: Global,
-        out: &mut Vec<u8>,
-        files: &[Text],
-        contents: &[Bytes],
-    ) -> Result<(), AllocError>
-        ensures ok { OnOk result (out.new.items ≡ out.old.items ++ data_bytes (for_file [] files.now contents.now) self.now) }
+    /// Appends the bytes that the data stands for, where files have these contents, in the order of their first naming;
+    /// a file without a content has no bytes.
+    pub fn put(&self, out: &mut Vec<u8>, contents: &[Bytes]) -> Result<(), AllocError>
+        ensures ok { OnOk result (out.new.items ≡ out.old.items ++ data_bytes (content_by contents.now) self.now) }
         ensures err { OnErr result (out.new.items ≡ out.old.items) }
     {
         match self {
             Data::Bytes(bytes) => out.extend_from_slice(bytes.as_slice()),
-            Data::Copies { count, byte } => {
-                let copies = vec![in alloc; *byte; *count as usize]?;
-                out.extend_from_slice(copies.as_slice())
-            }
-            Data::File(name) => {
-                out.extend_from_slice(content_of(files, contents, name.as_slice()))
-            }
+            Data::Copies { count, byte } => put_copies(out, *count, *byte),
+            Data::File(place) => match contents.get(*place as usize) {
+                Some(content) => out.extend_from_slice(content.as_slice()),
+                None => Ok(()),
+            },
         }
     }
 }
 
-/// What the file of the name has.
-fn content_of<'a>(files: &[Text], contents: &'a [Bytes], name: &[u8]) -> &'a [u8]
-    ensures { result.now ≡ for_file [] files.now contents.now name.now }
+/// Appends so many copies of a byte.
+fn put_copies(out: &mut Vec<u8>, count: u32, byte: u8) -> Result<(), AllocError>
+    ensures ok { OnOk result (out.new.items ≡ out.old.items ++ replicate count byte) }
+    ensures err { OnErr result (out.new.items ≡ out.old.items) }
 {
-    for (i, file) in files.iter().enumerate() {
-        if file.as_slice() == name {
-            return match contents.get(i) {
-                Some(content) => content.as_slice(),
-                None => &[],
-            };
-        }
-    }
-    &[]
+    let len = out.len();
+    let Some(whole) = len.checked_add(count as usize) else {
+        return Err(AllocError);
+    };
+    out.resize(whole, byte)
 }

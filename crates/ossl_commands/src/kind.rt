@@ -2,9 +2,10 @@
 
 ghost use Rattle.std.specs.Prelude.{◌≡◌};
 ghost use Rattle.ossl_commands.specs.Kind.{kind_word};
+ghost use Rattle.ossl_commands.specs.declared.kind.LineRefused.{LineRefused};
 ghost use Rattle.ossl_commands.specs.declared.kind.ScriptRefused.TheVariants.{NoMemory};
 
-use std::alloc::AllocError;
+use std::alloc::{AllocError, AllocFailed};
 
 /// What is wrong with a line: the first of these that applies.
 #[derive(Clone, Copy, Debug, PartialEq, Eq)]
@@ -52,5 +53,28 @@ impl From<AllocError> for ScriptRefused {
 
     fn from(_e: AllocError) -> ScriptRefused {
         ScriptRefused::NoMemory
+    }
+}
+
+/// Why a line is no command.
+#[derive(Clone, Copy)]
+pub enum LineRefused {
+    Faulty(LineKind),
+    NoMemory,
+}
+
+impl From<AllocError> for LineRefused {
+    ghost from_gives = { λ _ e. e ≡ LineRefused.NoMemory };
+
+    fn from(_e: AllocError) -> LineRefused {
+        LineRefused::NoMemory
+    }
+}
+
+impl<T: Drop> From<AllocFailed<T>> for LineRefused {
+    ghost from_gives = { λ _ e. e ≡ LineRefused.NoMemory };
+
+    fn from(_e: AllocFailed<T>) -> LineRefused {
+        LineRefused::NoMemory
     }
 }

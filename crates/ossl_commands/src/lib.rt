@@ -5,12 +5,15 @@
 
 mod command;
 mod data;
+mod files;
 mod kind;
 mod limit;
+mod option;
 mod table;
 mod word;
 
 pub use command::{Argument, Arguments, Command, Data, Line, Verb};
+pub use files::NamedFiles;
 pub use kind::{LineKind, ScriptRefused};
 pub use limit::Limit;
 pub use table::operation;

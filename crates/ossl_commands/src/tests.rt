@@ -1,7 +1,8 @@
 use crate::{
-    Command, Data, Limit, Line, LineKind, Verb, caller_number, is_name, number, operation,
+    Command, Data, Limit, Line, LineKind, NamedFiles, Verb, caller_number, is_name, number,
+    operation,
 };
-use ossl_base::text::{Bytes, Text};
+use ossl_base::text::Bytes;
 use ossl_codes::Operation;
 use std::test::Fail;
 
@@ -21,10 +22,14 @@ fn words_are_told_by_kind(rt: HostRuntime) {
 #[test]
 fn data_is_read_from_a_word(rt: HostRuntime) -> Result<(), Fail> {
     let alloc = rt.alloc();
+    let mut files = NamedFiles::new(alloc);
     for word in ["hex:00fF", "text:a=b:c", "rep:131:aA", "file:abc.txt"] {
-        assert!(rt; Data::of(alloc, word.as_bytes())?.is_some(), "{word}");
+        assert!(rt;
+            Data::of(alloc, &mut files, word.as_bytes())?.is_some(),
+            "{word}"
+        );
     }
-    assert!(rt; Data::of(alloc, b"hex:0")?.is_none());
+    assert!(rt; Data::of(alloc, &mut files, b"hex:0")?.is_none());
     Ok(())
 }
 
@@ -39,21 +44,21 @@ fn a_line_is_its_callers(rt: HostRuntime) {
     assert!(rt; !line.is_of(1));
 }
 
-// A file is looked up by its name; one that is not among the files has nothing.
+// A file is known by its place; one without a content has nothing.
 #[test]
 fn data_is_appended(rt: HostRuntime) -> Result<(), Fail> {
     let alloc = rt.alloc();
-    let mut files = Vec::new(alloc);
-    files.push(Text::of(Vec::from_slice(alloc, b"a")?))?;
-    files.push(Text::of(Vec::from_slice(alloc, b"b")?))?;
     let mut contents = Vec::new(alloc);
     contents.push(Bytes::of(Vec::from_slice(alloc, b"first")?))?;
     contents.push(Bytes::of(Vec::from_slice(alloc, b"second")?))?;
+    let mut files = NamedFiles::new(alloc);
     let mut out = Vec::new(alloc);
-    for word in ["file:b", "rep:3:2e", "text:x", "file:c"] {
-        let data = Data::of(alloc, word.as_bytes())?.ok_or("no data")?;
-        data.put(alloc, &mut out, files.as_slice(), contents.as_slice())?;
+    for word in ["file:a", "file:b", "rep:3:2e", "file:b", "file:c", "text:x"] {
+        let data = Data::of(alloc, &mut files, word.as_bytes())?.ok_or("no data")?;
+        data.put(&mut out, contents.as_slice())?;
     }
-    assert_eq!(rt; out.as_slice(), b"second...x".as_slice());
+    assert_eq!(rt; out.as_slice(), b"firstsecond...secondx".as_slice());
+    let names = files.into_names(alloc)?;
+    assert_eq!(rt; names.len(), 3);
     Ok(())
 }

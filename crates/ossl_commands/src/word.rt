@@ -29,7 +29,7 @@ fn are_name_bytes(text: &[u8]) -> bool
 }
 
 /// The number that 1 to 9 decimal digits say; they have no leading zero, `0` itself excepted.
-pub fn number(word: &[u8]) -> Option<u64>
+pub fn number(word: &[u8]) -> Option<u32>
     ensures number { result ≡ number_of word.now }
 {
     match word {
@@ -40,7 +40,7 @@ pub fn number(word: &[u8]) -> Option<u64>
 }
 
 /// The number of a caller: a number that is at least 1.
-pub fn caller_number(word: &[u8]) -> Option<u64>
+pub fn caller_number(word: &[u8]) -> Option<u32>
     ensures caller { result ≡ caller_of word.now }
 {
     match number(word) {
@@ -50,19 +50,19 @@ pub fn caller_number(word: &[u8]) -> Option<u64>
 }
 
 /// The number that one or more decimal digits say.
-fn decimal(word: &[u8]) -> Option<u64>
+fn decimal(word: &[u8]) -> Option<u32>
     requires { length word.now ≤ 9 }
     ensures { result ≡ digits_value 10 word.now }
 {
     if word.is_empty() {
         return None;
     }
-    let mut number = 0u64;
+    let mut number = 0u32;
     for byte in word {
         if !byte.is_ascii_digit() {
             return None;
         }
-        number = number * 10 + (*byte - b'0') as u64;
+        number = number * 10 + (*byte - b'0') as u32;
     }
     Some(number)
 }

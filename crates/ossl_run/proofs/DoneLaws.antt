@@ -20,10 +20,10 @@ use Rattle.ossl_commands.specs.declared.kind.LineKind.TheVariants as kinds
 use Rattle.ossl_script.specs.Caller.{Follows, after_reply, call_in, lines_of, next_at, opening}
 use Rattle.ossl_commands.specs.Counts.{callers_of}
 use Rattle.ossl_script.specs.Given.{Content, content_by}
-use Rattle.ossl_commands.specs.Judging.{Fault, ◌>>=◌, command_in, commands_from, holds, judged, numbered}
+use Rattle.ossl_commands.specs.Judging.{Commands, Fault, Said, ◌>>=◌, command_in, commands_from, holds, judged, numbered}
 use Rattle.ossl_commands.specs.Lines.{before_query, is_allowed, is_skipped, query_text, words_of}
 use Rattle.ossl_commands.specs.Table.{verb_of}
-use Rattle.ossl_commands.specs.Words.{caller_of, number_of, positive}
+use Rattle.ossl_commands.specs.Words.{Files, caller_of, number_of, positive}
 use Rattle.ossl_run.specs.declared.turns.Turn.{Turn}
 use Rattle.ossl_run.specs.Batched.{Batch, giving_back_of, next_of, replies_to}
 use Rattle.ossl_run.specs.Turns.{Drawn, EachCallerIsDone, ProgramIsApart, IsDone, IsInTurn, by_caller, by_text, callers_in, drawn, least, lesser, listed, next_turn, returning_calls, turn_at, turn_of}
@@ -139,8 +139,8 @@ stays_ended content (reply ∷ replies) = stays_ended content replies
 module _ (batch : Batch) where
   no_calls : (c : ℕ) (replies : List Reply) → lines_of c batch.lines ≡ [] → next_of batch c replies ≡ nexts.End
   no_calls c replies none =
-      let P : List Line → Type 0 = λ lines. next_at (fold (after_reply (content_by batch.lines batch.contents)) (opening (content_by batch.lines batch.contents) lines) replies).place ≡ nexts.End in
-      subst P (sym none) (stays_ended (content_by batch.lines batch.contents) replies)
+      let P : List Line → Type 0 = λ lines. next_at (fold (after_reply (content_by batch.contents)) (opening (content_by batch.contents) lines) replies).place ≡ nexts.End in
+      subst P (sym none) (stays_ended (content_by batch.contents) replies)
 
   -- 5. The turns of a caller are its calls, to its end.
 
@@ -255,49 +255,62 @@ is_positive n m is = elim (cases_Bool (n == 0)) [
 ]
 
 -- the steps of a line that is judged good: the second told its caller
-caller_told : (allowed : Result Bool LineKind) (caller : Result ℕ LineKind) (verb : Result Verb LineKind) (command : Verb → Result Command LineKind) (told : ℕ × Command) →
-    allowed >>= (λ a. caller >>= (λ c. verb >>= (λ v. command v >>= (λ x. Ok (c, x))))) ≡ Ok told → caller ≡ Ok told.0
+caller_told : (allowed : Result Bool LineKind) (caller : Result ℕ LineKind) (verb : Result Verb LineKind) (command : Verb → Result (Command × Files) LineKind) (told : Said) →
+    allowed >>= (λ a. caller >>= (λ c. verb >>= (λ v. command v >>= (λ x. Ok (record { caller = c; command = x.0; files = x.1 }))))) ≡ Ok told → caller ≡ Ok told.caller
 caller_told (Err kind) caller verb command told is = cc
 caller_told (Ok a) (Err kind) verb command told is = cc
 caller_told (Ok a) (Ok c) (Err kind) command told is = cc
 caller_told (Ok a) (Ok c) (Ok v) command told is = ap Ok (of (command v) is)
   where
-    of : (r : Result Command LineKind) → r >>= (λ x. Ok (c, x)) ≡ Ok told → c ≡ told.0
+    of : (r : Result (Command × Files) LineKind) → r >>= (λ x. Ok (record { caller = c; command = x.0; files = x.1 })) ≡ Ok told → c ≡ told.caller
     of (Err kind) is = cc
-    of (Ok x) is = let same : (c, x) ≡ told = cc in ap (λ (p : ℕ × Command). p.0) same
+    of (Ok x) is =
+        let whole : Said = record { caller = c; command = x.0; files = x.1 } in
+        let same : whole ≡ told = cc in
+        ap (λ (p : Said). p.caller) same
 
 -- a line that is judged good has a caller's number
-has_caller : (text : List ℕ) (told : ℕ × Command) → judged text ≡ Ok told → 0 < told.0
-has_caller text told is =
+has_caller : (files : Files) (text : List ℕ) (told : Said) → judged files text ≡ Ok told → 0 < told.caller
+has_caller files text told is =
     let words = words_of (before_query true text) in
     let caller = caller_told (holds (list_all is_allowed text) kinds.Byte) (ok_or (option_and_then caller_of (slice_get words 0)) kinds.Caller) (ok_or (option_and_then verb_of (slice_get words 1)) kinds.Command)
-    (λ verb. command_in verb (drop 2 words) (query_text true text)) told is in
-    let word = some-then caller_of (slice_get words 0) told.0 (some-ok (option_and_then caller_of (slice_get words 0)) kinds.Caller told.0 caller) in
-    let number = some-then positive (number_of word.0) told.0 word.1 in
-    is_positive number.0 told.0 number.1
+    (λ verb. command_in verb files (drop 2 words) (query_text true text)) told is in
+    let word = some-then caller_of (slice_get words 0) told.caller (some-ok (option_and_then caller_of (slice_get words 0)) kinds.Caller told.caller caller) in
+    let number = some-then positive (number_of word.0) told.caller word.1 in
+    is_positive number.0 told.caller number.1
 
-none_by_program : (number : ℕ) (texts : List (List ℕ)) (lines : List Line) → commands_from number texts ≡ Ok lines → lines_of 0 lines ≡ []
-none_by_program number [] [] is = refl
-none_by_program number [] (line ∷ lines) is = cc
-none_by_program number (text ∷ texts) lines is = elim (cases_Bool (is_skipped text)) [
-  | inl skipped ↦ none_by_program (number + 1) texts lines (rw skipped at is)
-  | inr told ↦ of (judged text) refl (commands_from (number + 1) texts) (λ more behind. none_by_program (number + 1) texts more behind) (rw told at is)
+none_by_program : (number : ℕ) (files : Files) (texts : List (List ℕ)) (said : Commands) → commands_from number files texts ≡ Ok said → lines_of 0 said.lines ≡ []
+none_by_program number files [] said is =
+    let none : Commands = record { lines = []; files = files } in
+    let same : none ≡ said = cc in
+    subst (λ (c : Commands). lines_of 0 c.lines ≡ []) same refl
+none_by_program number files (text ∷ texts) said is = elim (cases_Bool (is_skipped text)) [
+  | inl skipped ↦ none_by_program (number + 1) files texts said (rw skipped at is)
+  | inr told ↦ of (judged files text) refl (rw told at is)
 ]
   where
-    of : (said : Result (ℕ × Command) LineKind) → judged text ≡ said → (later : Result (List Line) Fault) → ((more : List Line) → later ≡ Ok more → lines_of 0 more ≡ []) → numbered number said later ≡ Ok lines → lines_of 0 lines ≡ []
-    of (Err kind) said later behind is = cc
-    of (Ok told) said (Err fault) behind is = cc
-    of (Ok told) said (Ok more) behind is =
-        let whole : lines ≡ record { number = number; caller = told.0; command = told.1 } ∷ more = cc in
-        rw (whole, ne_eqb told.0 0 (λ zero. absurd (omega (arith, has_caller text told said, zero)))) (behind more refl)
+    step : (told : Said) → judged files text ≡ Ok told → (r : Result Commands Fault) → commands_from (number + 1) told.files texts ≡ r
+        → r >>= (λ more. Ok (record { lines = record { number = number; caller = told.caller; command = told.command } ∷ more.lines; files = more.files })) ≡ Ok said
+        → lines_of 0 said.lines ≡ []
+    step told good (Err fault) was is = cc
+    step told good (Ok more) was is =
+        let line : Line = record { number = number; caller = told.caller; command = told.command } in
+        let whole : Commands = record { lines = line ∷ more.lines; files = more.files } in
+        let same : whole ≡ said = cc in
+        let other : nat_eq told.caller 0 ≡ false = ne_eqb told.caller 0 (λ zero. absurd (omega (arith, has_caller files text told good, zero))) in
+        subst (λ (c : Commands). lines_of 0 c.lines ≡ []) same (rw other (none_by_program (number + 1) told.files texts more was))
+
+    of : (judging : Result Said LineKind) → judged files text ≡ judging → numbered number judging (λ named. commands_from (number + 1) named texts) ≡ Ok said → lines_of 0 said.lines ≡ []
+    of (Err kind) judging is = cc
+    of (Ok told) judging is = step told judging (commands_from (number + 1) told.files texts) refl is
 
 pub program_is_apart : ProgramIsApart
-program_is_apart text settings batch list entries is run =
+program_is_apart text files settings batch list entries is run =
     ap (entries_of 0) run.parts
     ∙ last ∙ middle ∙ ap (λ l. l ++ entries_of 0 run.closing) first ∙ ap (λ l. run.opening ++ l) run.closed.caller
   where
     none : lines_of 0 batch.lines ≡ []
-    none = none_by_program 1 (lines text) batch.lines is
+    none = none_by_program 1 [] (lines text) (record { lines = batch.lines; files = files }) is
 
     returning : entries_of 0 run.returning ≡ []
     returning = no_calls_no_entries (entries_of 0 run.returning) (

@@ -23,7 +23,8 @@ use Rattle.ossl_script.specs.Course.{Course}
 use Rattle.ossl_script.specs.Course.Course.{ask, said}
 use Rattle.ossl_script.specs.Given.{Content, content_by}
 use Rattle.ossl_script.specs.Held.{held_after}
-use Rattle.ossl_commands.specs.Judging.{Fault, commands_from, judged, numbered}
+use Rattle.ossl_commands.specs.Judging.{Commands, Fault, Said, ◌>>=◌, commands_from, judged, numbered}
+use Rattle.ossl_commands.specs.Words.{Files}
 use Rattle.ossl_commands.specs.Lines.{is_skipped}
 use Rattle.ossl_script.proofs.HeldLaws.{goes_by_reply}
 use Rattle.ossl_run.specs.declared.turns.Turn.{Turn}
@@ -48,20 +49,27 @@ Rises-filter p n (line ∷ lines) rises = elim (cases_Bool (p line)) [
   | inr goes ↦ rw goes (Rises-filter p n lines (Rises-from line.number n lines (omega (arith, rises.0)) rises.1))
 ]
 
-commands-rise : (number n : ℕ) (texts : List (List ℕ)) (lines : List Line) → n < number → commands_from number texts ≡ Ok lines → Rises n lines
-commands-rise number n [] [] less is = tt
-commands-rise number n [] (line ∷ lines) less is = cc
-commands-rise number n (text ∷ texts) lines less is = elim (cases_Bool (is_skipped text)) [
-  | inl skipped ↦ commands-rise (number + 1) n texts lines (omega (arith, less)) (rw skipped at is)
-  | inr told ↦ of (judged text) (commands_from (number + 1) texts) (λ more behind. commands-rise (number + 1) number texts more (omega arith) behind) (rw told at is)
+commands-rise : (number n : ℕ) (files : Files) (texts : List (List ℕ)) (said : Commands) → n < number → commands_from number files texts ≡ Ok said → Rises n said.lines
+commands-rise number n files [] said less is =
+    let none : Commands = record { lines = []; files = files } in
+    let same : none ≡ said = cc in
+    subst (λ (c : Commands). Rises n c.lines) same tt
+commands-rise number n files (text ∷ texts) said less is = elim (cases_Bool (is_skipped text)) [
+  | inl skipped ↦ commands-rise (number + 1) n files texts said (omega (arith, less)) (rw skipped at is)
+  | inr told ↦ of (judged files text) (rw told at is)
 ]
   where
-    of : (judged : Result (ℕ × Command) LineKind) (later : Result (List Line) Fault) → ((more : List Line) → later ≡ Ok more → Rises number more) → numbered number judged later ≡ Ok lines → Rises n lines
-    of (Err kind) later behind is = cc
-    of (Ok told) (Err fault) behind is = cc
-    of (Ok told) (Ok more) behind is =
-        let whole : lines ≡ record { number = number; caller = told.0; command = told.1 } ∷ more = cc in
-        rw whole (less, behind more refl)
+    step : (told : Said) (r : Result Commands Fault) → commands_from (number + 1) told.files texts ≡ r
+        → r >>= (λ more. Ok (record { lines = record { number = number; caller = told.caller; command = told.command } ∷ more.lines; files = more.files })) ≡ Ok said → Rises n said.lines
+    step told (Err fault) was is = cc
+    step told (Ok more) was is =
+        let whole : Commands = record { lines = record { number = number; caller = told.caller; command = told.command } ∷ more.lines; files = more.files } in
+        let same : whole ≡ said = cc in
+        subst (λ (c : Commands). Rises n c.lines) same (less, commands-rise (number + 1) number told.files texts more (omega arith) was)
+
+    of : (judged : Result Said LineKind) → numbered number judged (λ named. commands_from (number + 1) named texts) ≡ Ok said → Rises n said.lines
+    of (Err kind) is = cc
+    of (Ok told) is = step told (commands_from (number + 1) told.files texts) refl is
 
 -- 2. A caller's next line never falls.
 
@@ -197,7 +205,7 @@ module _ (batch : Batch) where
       further =
           let P : Standing → Type 0 = λ standing. IsFrom m standing.place in
           subst P (sym (goes_by_reply batch.lines batch.contents c (replies_to c past) e.reply))
-          (after-from (content_by batch.lines batch.contents) (standing_of batch.lines batch.contents c (replies_to c past)) e.reply m (place_at c past) refl now
+          (after-from (content_by batch.contents) (standing_of batch.lines batch.contents c (replies_to c past)) e.reply m (place_at c past) refl now
           (above-line m c (place_at c past) above.0))
 
       one : IsFrom m (place_at c (past ++ e ∷ []))
@@ -230,8 +238,8 @@ module _ (batch : Batch) where
 
   opening_each : (cs : List ℕ) → Rises 0 batch.lines → Each (λ c. IsFrom 0 (place_at c [])) cs
   opening_each [] rises = tt
-  opening_each (c ∷ cs) rises = (opening-from (content_by batch.lines batch.contents) (lines_of c batch.lines) (Rises-filter (λ line. nat_eq line.caller c) 0 batch.lines rises), opening_each cs rises)
+  opening_each (c ∷ cs) rises = (opening-from (content_by batch.contents) (lines_of c batch.lines) (Rises-filter (λ line. nat_eq line.caller c) 0 batch.lines rises), opening_each cs rises)
 
 -- without a list the lines run in the order of the text
 pub order_of_text : OrderOfText
-order_of_text text batch entries is run = never_falls batch [] entries 0 (opening_each batch (callers_in batch) (commands-rise 1 0 (lines text) batch.lines (omega arith) is)) run
+order_of_text text files batch entries is run = never_falls batch [] entries 0 (opening_each batch (callers_in batch) (commands-rise 1 0 [] (lines text) (record { lines = batch.lines; files = files }) (omega arith) is)) run

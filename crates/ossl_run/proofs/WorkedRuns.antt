@@ -20,7 +20,7 @@ use Rattle.ossl_conf.specs.declared.refusal.ConfRefused.TheVariants as refusals
 use Rattle.ossl_commands.specs.declared.command.Line.{Line}
 use Rattle.ossl_commands.specs.declared.kind.LineKind.TheVariants as kinds
 use Rattle.ossl_commands.specs.declared.limit.Limit.TheVariants as limits
-use Rattle.ossl_commands.specs.Judging.{Fault, commands_of}
+use Rattle.ossl_commands.specs.Judging.{Commands, Fault, commands_of}
 use Rattle.ossl_run.specs.declared.error_line.ErrorLine.TheVariants as lines
 use Rattle.ossl_run.specs.Batched.{Batch}
 use Rattle.ossl_run.specs.ErrorLine.{error_status, error_text}
@@ -30,8 +30,8 @@ use Rattle.ossl_run.specs.Turns.{IsInTurn, IsRefusedRun, IsRunInOrder, lines_fro
 
 -- 1. What the runs are written with.
 
-abbrev pub lines_in : Result (List Line) Fault → List Line
-lines_in (Ok lines) = lines
+abbrev pub lines_in : Result Commands Fault → List Line
+lines_in (Ok said) = said.lines
 lines_in (Err fault) = []
 
 -- a batch of this text, without files

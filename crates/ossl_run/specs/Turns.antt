@@ -120,8 +120,8 @@ NeverFalls least (number ∷ numbers) = (least ≤ number) × NeverFalls number 
 -- without a list the lines run one after the other, in the order of the text: the line of an entry is never less than that of the
 -- one before it, and each line is of one caller
 abbrev pub OrderOfText : Type 0
-OrderOfText = (text : List ℕ) (batch : Batch) (entries : List (Entry Call Reply))
-    → commands_of text ≡ Ok batch.lines
+OrderOfText = (text : List ℕ) (files : List (List ℕ)) (batch : Batch) (entries : List (Entry Call Reply))
+    → commands_of text ≡ Ok (record { lines = batch.lines; files = files })
     → IsInTurn batch [] [] entries
     → NeverFalls 0 (lines_from batch [] entries)
 
@@ -144,8 +144,8 @@ EachCallerIsDone = (settings : SettingsView) (batch : Batch) (list : List ℕ) (
 
 -- the program's entries are the opening and the closing, before and behind all others
 abbrev pub ProgramIsApart : Type 0
-ProgramIsApart = (text : List ℕ) (settings : SettingsView) (batch : Batch) (list : List ℕ) (entries : List (Entry Call Reply))
-    → commands_of text ≡ Ok batch.lines
+ProgramIsApart = (text : List ℕ) (files : List (List ℕ)) (settings : SettingsView) (batch : Batch) (list : List ℕ) (entries : List (Entry Call Reply))
+    → commands_of text ≡ Ok (record { lines = batch.lines; files = files })
     → (run : IsRunInOrder settings batch list entries)
     → entries_of 0 entries ≡ run.opening ++ run.closing
 

@@ -263,7 +263,7 @@ calls_name_contexts lines contents caller replies line call contexts most next =
     (within_opening contexts content (lines_of caller lines) greatest.0 (below_filtered contexts (λ line. nat_eq line.caller caller) lines greatest.1)))
   where
     content : Content
-    content = content_by lines contents
+    content = content_by contents
 
     at : (place : Place) → next_at place ≡ nexts.Call line call → IsWithinPlace contexts place → names_context contexts call ≡ true
     at (asking number other follows behind) same within = let equal : other ≡ call = (cc) in subst (λ c. names_context contexts c ≡ true) equal within.0.0

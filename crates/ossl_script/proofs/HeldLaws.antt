@@ -28,7 +28,7 @@ use Rattle.ossl_script.specs.Laws.{GoesByReply, HeldIsOwned, GivingBackLeavesNon
 
 -- a further reply is one step more
 pub goes_by_reply : GoesByReply
-goes_by_reply lines contents caller replies reply = fold-append (after_reply (content_by lines contents)) (opening (content_by lines contents) (lines_of caller lines)) replies (reply ∷ [])
+goes_by_reply lines contents caller replies reply = fold-append (after_reply (content_by contents)) (opening (content_by contents) (lines_of caller lines)) replies (reply ∷ [])
 
 -- a token stands for this one: giving it back gives this one up
 abbrev pub is_token : Held → ℕ → Token → Bool
@@ -155,7 +155,7 @@ followed lines contents caller replies (e ∷ made) t token follows =
     ∙ followed lines contents caller (replies ++ e.reply ∷ []) made t token follows.1
     ∙ ap (λ owned. owns_after owned made t token) (
     ap (λ standing. is_held standing.held t token) (goes_by_reply lines contents caller replies e.reply)
-    ∙ ap (λ held. is_held held t token) (after_asking (content_by lines contents) (standing_of lines contents caller replies) e.call e.reply follows.0)
+    ∙ ap (λ held. is_held held t token) (after_asking (content_by contents) (standing_of lines contents caller replies) e.call e.reply follows.0)
     ∙ held-after e (standing_of lines contents caller replies).held t token
     )
   where
@@ -199,7 +199,7 @@ owns_after-append owned (e ∷ es) fs t token = owns_after-append (owns_after_en
 pub held_is_owned : HeldIsOwned
 held_is_owned lines contents caller made follows t token =
     followed lines contents caller [] made t token follows
-    ∙ ap (λ held. owns_after (is_held held t token) made t token) (opening-held (content_by lines contents) (lines_of caller lines))
+    ∙ ap (λ held. owns_after (is_held held t token) made t token) (opening-held (content_by contents) (lines_of caller lines))
 
 -- giving back leaves no token, at any moment
 pub giving_back_leaves_none : GivingBackLeavesNone

@@ -659,7 +659,7 @@ sound_steps lines contents caller least replies (e ∷ made) follows rises sound
     subst (λ all. IsSoundStanding (least_after (least_behind least (handed_out e.call e.reply)) made) (standing_of lines contents caller all)) (append_assoc replies (e.reply ∷ []) (map (λ one. one.reply) made))
     (sound_steps lines contents caller (least_behind least (handed_out e.call e.reply)) (replies ++ e.reply ∷ []) made follows.1 rises.1
     (subst (λ standing. IsSoundStanding (least_behind least (handed_out e.call e.reply)) standing) (sym (goes_by_reply lines contents caller replies e.reply))
-    (sound_step (content_by lines contents) least (standing_of lines contents caller replies) e.call e.reply follows.0 rises.0 sound)))
+    (sound_step (content_by contents) least (standing_of lines contents caller replies) e.call e.reply follows.0 rises.0 sound)))
 
 -- a call whose tokens are held names tokens that are owned
 owns_what_it_holds : (held : List Held) (made : List (Entry Call Reply)) (call : Call) → ((t : ℕ) (token : Token) → is_held held t token ≡ owns made t token) → NamesHeld held call → owns_named made call ≡ true
@@ -678,7 +678,7 @@ owns_what_it_holds held made (calls.NewCtx token (Some inner) len) same names =
 -- where a caller stands after its entries
 sound_after : (lines : List Line) (contents : List (List ℕ)) (caller : ℕ) (made : List (Entry Call Reply)) → Follows lines contents caller [] made → Rises 0 made
     → IsSoundStanding (least_after 0 made) (standing_of lines contents caller (map (λ e. e.reply) made))
-sound_after lines contents caller made follows rises = sound_steps lines contents caller 0 [] made follows rises (sound_opening (content_by lines contents) (lines_of caller lines))
+sound_after lines contents caller made follows rises = sound_steps lines contents caller 0 [] made follows rises (sound_opening (content_by contents) (lines_of caller lines))
 
 -- each call that comes next names tokens that the caller owns
 pub calls_are_owned : CallsAreOwned

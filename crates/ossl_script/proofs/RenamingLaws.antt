@@ -303,5 +303,5 @@ pub results_name_no_token : ResultsNameNoToken
 results_name_no_token lines contents caller replies tokens instances = (same.told, same_next tokens instances _ _ same.place)
   where
     same : IsSameStanding tokens instances (standing_of lines contents caller replies) (standing_of lines contents caller (map (renumbered tokens instances) replies))
-    same = let content = content_by lines contents in
+    same = let content = content_by contents in
         same_steps tokens instances content _ _ replies (same_opening tokens instances content (lines_of caller lines))

@@ -28,10 +28,10 @@ calls_from content standing (reply ∷ replies) = next_at standing.place ∷ cal
 
 -- what a caller of a batch does that gets these replies
 abbrev pub does : List ℕ → List (List ℕ) → ℕ → List Reply → Result Does Fault
-does text contents caller replies = commands_of text >>= λ lines. Ok (record {
-  calls = let content = content_by lines contents in calls_from content (opening content (lines_of caller lines)) replies;
-  results = results_of lines contents caller replies;
-  back = giving_back lines contents caller replies;
+does text contents caller replies = commands_of text >>= λ said. Ok (record {
+  calls = let content = content_by contents in calls_from content (opening content (lines_of caller said.lines)) replies;
+  results = results_of said.lines contents caller replies;
+  back = giving_back said.lines contents caller replies;
 })
 
 -- with these replies a caller makes these calls and no more, its results are these, and it gives this back

@@ -63,7 +63,7 @@ stands content lines replies = fold (after_reply content) (opening content lines
 
 -- where a caller of a batch stands after its replies so far, given the contents of the files in the order of their first naming
 abbrev pub standing_of : List Line → List (List ℕ) → ℕ → List Reply → Standing
-standing_of lines contents caller replies = stands (content_by lines contents) (lines_of caller lines) replies
+standing_of lines contents caller replies = stands (content_by contents) (lines_of caller lines) replies
 
 abbrev pub next_at : Place → Next
 next_at (asking number call follows lines) = nexts.Call number call

@@ -9,17 +9,23 @@ use Rattle.ossl_state.specs.History.{Fixed, IsAllowed, IsLegal}
 use Rattle.ossl_state.specs.Tokens.{Token, names_context, owns, owns_named, entries_of}
 use Rattle.ossl_script.specs.declared.caller.Next.{Next}
 use Rattle.ossl_script.specs.declared.caller.Next.TheVariants as nexts
+use Rattle.ossl_commands.specs.declared.command.Argument.{Argument}
+use Rattle.ossl_commands.specs.declared.command.Argument.TheVariants.{Piece, Key, Iv, Salt, Info}
+use Rattle.ossl_commands.specs.declared.command.Command.{Command}
+use Rattle.ossl_commands.specs.declared.command.Command.TheVariants.{Open, Feed, Perform}
+use Rattle.ossl_commands.specs.declared.command.Data.{Data}
+use Rattle.ossl_commands.specs.declared.command.Data.TheVariants.{Bytes}
 use Rattle.ossl_commands.specs.declared.command.Line.{Line}
 use Rattle.ossl_script.specs.declared.held.Held.{Held}
 use Rattle.ossl_script.specs.Caller.{Follows, after_reply, giving_back, lines_of, next_call, results_of, standing_of}
-use Rattle.ossl_commands.specs.Counts.{contexts_of, files_of}
-use Rattle.ossl_script.specs.Given.{content_by}
+use Rattle.ossl_commands.specs.Counts.{contexts_of}
+use Rattle.ossl_script.specs.Given.{Content, content_by, data_bytes}
 use Rattle.ossl_script.specs.Held.{handed_out, is_held}
 
 -- a further reply is one step more
 abbrev pub GoesByReply : Type 0
 GoesByReply = (lines : List Line) (contents : List (List ℕ)) (caller : ℕ) (replies : List Reply) (reply : Reply)
-    → standing_of lines contents caller (replies ++ reply ∷ []) ≡ after_reply (content_by lines contents) (standing_of lines contents caller replies) reply
+    → standing_of lines contents caller (replies ++ reply ∷ []) ≡ after_reply (content_by contents) (standing_of lines contents caller replies) reply
 
 -- what a caller holds is what it owns by its entries
 abbrev pub HeldIsOwned : Type 0
@@ -117,12 +123,32 @@ ResultsNameNoToken = (lines : List Line) (contents : List (List ℕ)) (caller : 
     (results_of lines contents caller others ≡ results_of lines contents caller replies)
     × (next_call lines contents caller others ≡ renamed_next tokens (next_call lines contents caller replies))
 
--- a caller's next call, its results and what it gives back follow from its own lines, what their files hold, and its replies: other callers' lines may be others
+-- data by its bytes
+abbrev pub filled_data : Content → Data → Data
+filled_data content given = Bytes (data_bytes content given)
+
+abbrev pub filled_argument : Content → Argument → Argument
+filled_argument content (Piece given) = Piece (filled_data content given)
+filled_argument content (Key given) = Key (filled_data content given)
+filled_argument content (Iv given) = Iv (filled_data content given)
+filled_argument content (Salt given) = Salt (filled_data content given)
+filled_argument content (Info given) = Info (filled_data content given)
+filled_argument content argument = argument
+
+abbrev pub filled_command : Content → Command → Command
+filled_command content (Open used bound arguments) = Open used bound (map (filled_argument content) arguments)
+filled_command content (Feed used arguments) = Feed used (map (filled_argument content) arguments)
+filled_command content (Perform operation algorithm arguments query) = Perform operation algorithm (map (filled_argument content) arguments) query
+filled_command content command = command
+
+-- a line with the bytes of its data in place of files
+abbrev pub filled_line : Content → Line → Line
+filled_line content line = record line { command = filled_command content line.command }
+
+-- a caller's next call, its results and what it gives back follow from its own lines, with what their files hold, and its replies: other callers' lines may be others
 abbrev pub OwnLinesAlone : Type 0
 OwnLinesAlone = (lines others : List Line) (contents other_contents : List (List ℕ)) (caller : ℕ) (replies : List Reply)
-    → lines_of caller others ≡ lines_of caller lines
-    → let files = files_of (lines_of caller lines) in
-    map (content_by others other_contents) files ≡ map (content_by lines contents) files
+    → map (filled_line (content_by other_contents)) (lines_of caller others) ≡ map (filled_line (content_by contents)) (lines_of caller lines)
     → (next_call others other_contents caller replies ≡ next_call lines contents caller replies)
     × (results_of others other_contents caller replies ≡ results_of lines contents caller replies)
     × (giving_back others other_contents caller replies ≡ giving_back lines contents caller replies)
