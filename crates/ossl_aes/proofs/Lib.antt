@@ -1,5 +1,6 @@
 mod BlockFacts
 mod FieldFacts
+pub mod Undoing
 pub mod Lists
 mod RoundFacts
 mod ScheduleFacts

@@ -6,6 +6,7 @@
 mod aes;
 mod block;
 mod columns;
+mod inverse;
 #[cfg(test)]
 mod plain;
 mod rounds;
@@ -16,4 +17,5 @@ mod tests;
 
 pub use aes::Aes;
 pub use block::{Block, xor_blocks};
+pub use inverse::there_and_back;
 pub use rounds::{dec_word, enc_word, sub, unsub};

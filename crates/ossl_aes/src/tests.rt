@@ -1,7 +1,7 @@
 ghost use Rattle.std.specs.Prelude.{◌≡◌, ◌*◌, length};
 ghost use Rattle.ossl_aes.specs.State.{IsSize};
 
-use crate::{Aes, Block, dec_word, enc_word, plain, sub, unsub};
+use crate::{Aes, Block, dec_word, enc_word, plain, sub, there_and_back, unsub};
 use std::process::Abort;
 
 const KEY: [u8; 32] = [
@@ -109,4 +109,10 @@ fn tables_and_loops_agree(rt: HostRuntime) {
         round_trip::<6, 52>(&rt, &key[..24], plain::decrypt(&key[..24], 6, block), block);
         round_trip::<8, 60>(&rt, &key, plain::decrypt(&key, 8, block), block);
     }
+}
+
+#[test]
+fn decryption_undoes_encryption(rt: HostRuntime) {
+    let block = there_and_back(&Aes::<6, 52>::expand(&KEY[..24]), &BLOCK);
+    assert_eq!(rt; block, BLOCK);
 }

@@ -1,2 +1,3 @@
 pub mod Modes
+pub mod Return
 pub mod Run

@@ -5,6 +5,7 @@
 
 mod blocks;
 mod kinds;
+mod length;
 mod mode;
 mod padding;
 mod state;
@@ -13,5 +14,6 @@ mod step;
 mod tests;
 
 pub use kinds::{FinishRefused, ModeKind};
+pub use length::padded_len;
 pub use mode::run;
 pub use state::Mode;
