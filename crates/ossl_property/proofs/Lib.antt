@@ -17,3 +17,4 @@ pub mod Taken
 pub mod Faults
 pub mod Meanings
 pub mod SaidLaws
+pub mod Equality

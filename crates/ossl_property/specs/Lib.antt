@@ -7,3 +7,4 @@ pub mod Reading
 pub mod Tokens
 pub mod Fault
 pub mod Said
+pub mod Same

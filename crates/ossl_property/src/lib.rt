@@ -11,6 +11,7 @@ mod parse;
 mod print;
 mod query;
 mod reader;
+mod same;
 mod scoring;
 mod steps;
 mod word;

@@ -60,7 +60,7 @@ fn holds(relation: Relation, is_equal: bool) -> bool
 }
 
 /// Whether two values are equal; a number and a string never are.
-fn is_same(value: &Value, wanted: &Value) -> bool
+pub fn is_same(value: &Value, wanted: &Value) -> bool
     ensures { result ≡ is_same value.now wanted.now }
 {
     match (value, wanted) {
