@@ -1,0 +1,121 @@
+//! Places that hold answers: which of them holds a key, which is free, and what goes from them.
+
+ghost use Rattle.std.specs.Prelude.{◌≡◌, ◌<◌, None, Some, find, map, length, unwrap_or, option_map, slice_set};
+ghost use Rattle.ossl_cache.specs.Recent.{same_key};
+ghost use Rattle.ossl_cache.specs.Places.{goes, emptied, held_at, holds_at, is_free, last_place, next_place};
+
+use crate::key::{Kept, Key};
+use lru::LruCache;
+use ossl_codes::Operation;
+use ossl_names::Number;
+
+/// A place: empty, or a key with what answered it.
+pub type Slot = Option<(Key, Kept)>;
+
+/// The places, the last used first.
+pub type Order = LruCache<usize, ()>;
+
+/// Which answers go.
+#[derive(Clone, Copy)]
+pub enum Going<'a> {
+    All,
+    Key(&'a Key),
+    Asked(Operation, Number),
+    Answered(u64),
+}
+
+/// Empties the places whose answers go.
+pub fn empty(slots: &mut [Slot], going: Going)
+    ensures { slots.new ≡ map (emptied (goes going.entry)) slots.old }
+{
+    for slot in slots.iter_mut() {
+        empty_one(slot, going);
+    }
+}
+
+fn empty_one(slot: &mut Slot, going: Going)
+    ensures { slot.new ≡ emptied (goes going.entry) slot.old }
+{
+    if let Some((key, kept)) = slot
+        && is_going(going, key, kept)
+    {
+        *slot = None;
+    }
+}
+
+fn is_going(going: Going, key: &Key, kept: &Kept) -> bool
+    ensures { result ≡ goes going.entry (key.now, kept.now) }
+{
+    match going {
+        Going::All => true,
+        Going::Key(other) => other.is_same(key),
+        Going::Asked(op, number) => key.asks_for(op, number),
+        Going::Answered(instance) => kept.instance == instance,
+    }
+}
+
+/// The place that holds a key.
+pub fn place_of(slots: &[Slot], order: &Order, key: &Key) -> Option<usize>
+    ensures { result ≡ find (holds_at (same_key key.now) slots.now) (map (λ e. e.0) order.now.entries) }
+{
+    order
+        .iter()
+        .map(|e| *e.0)
+        .find(|place| holds(slots, *place, key))
+}
+
+fn holds(slots: &[Slot], place: usize, key: &Key) -> bool
+    ensures { result ≡ holds_at (same_key key.now) slots.now place }
+{
+    match slots.get(place) {
+        Some(Some((held, _))) => key.is_same(held),
+        _ => false,
+    }
+}
+
+/// What answered the key that a place holds.
+pub fn kept_at(slots: &[Slot], place: usize) -> Option<Kept>
+    ensures { result ≡ option_map (λ a. a.1) (held_at slots.now place) }
+{
+    match slots.get(place) {
+        Some(Some((_, kept))) => Some(*kept),
+        _ => None,
+    }
+}
+
+/// The place for a new answer: the first that holds nothing, or else the one used longest ago.
+pub fn next_place(slots: &[Slot], order: &Order) -> usize
+    ensures { result ≡ next_place slots.now order.now.entries }
+{
+    match first_free(slots, order) {
+        Some(place) => place,
+        None => last_place(order),
+    }
+}
+
+fn first_free(slots: &[Slot], order: &Order) -> Option<usize>
+    ensures { result ≡ find (is_free slots.now) (map (λ e. e.0) order.now.entries) }
+{
+    order
+        .iter()
+        .map(|e| *e.0)
+        .find(|place| is_free(slots, *place))
+}
+
+fn is_free(slots: &[Slot], place: usize) -> bool
+    ensures { result ≡ is_free slots.now place }
+{
+    match slots.get(place) {
+        Some(slot) => slot.is_none(),
+        None => true,
+    }
+}
+
+fn last_place(order: &Order) -> usize
+    ensures { result ≡ last_place order.now.entries }
+{
+    match order.peek_lru() {
+        Some((place, _)) => *place,
+        None => 0,
+    }
+}
