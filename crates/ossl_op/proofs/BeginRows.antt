@@ -5,7 +5,8 @@ use Rattle.ossl_codes.specs.declared.code.AesMode.TheVariants.{Ecb, Cbc, Ctr}
 use Rattle.ossl_codes.specs.declared.code.Code.TheVariants.{Sha256, Sha512, Md5, Aes, ChaCha20, Rc4, Hmac, Cmac, Hkdf}
 use Rattle.ossl_codes.specs.declared.param.KdfMode.TheVariants.{Extract, Expand}
 use Rattle.ossl_codes.specs.declared.param.Param.TheVariants.{Key, Iv, Inner, Len}
-use Rattle.ossl_op.specs.declared.params.BeginRefused.TheVariants.{MissingParam, WrongInner, KeyLength, IvLength, TooLong}
+use Rattle.ossl_op.specs.declared.params.BeginRefused.TheVariants.{MissingParam, WrongInner, KeyLength, IvLength}
+use Rattle.ossl_op.specs.declared.params.BeginRefused.TheVariants.{TooLong}
 use Rattle.ossl_op.specs.Begins.{begins}
 use Rattle.ossl_op.proofs.Examples.{plain, keyed, with_iv}
 
@@ -82,7 +83,8 @@ greatest_len = refl
 too_long : begins Hkdf (Some Sha256) (record (keyed []) { len = Some 8161 }) ≡ Err (TooLong 8160)
 too_long = refl
 
-too_long_expansion : begins Hkdf (Some Sha512) (record (keyed []) { mode = Expand; len = Some 16321 }) ≡ Err (TooLong 16320)
+too_long_expansion : begins Hkdf (Some Sha512) (record (keyed []) { mode = Expand; len = Some 16321 })
+    ≡ Err (TooLong 16320)
 too_long_expansion = refl
 
 -- an extraction needs no length, and passes over a great one

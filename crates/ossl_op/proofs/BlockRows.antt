@@ -1,7 +1,8 @@
 -- Results by computation that work out blocks of AES.
 use Rattle.std.proofs.Common.{◌≡◌, ℕ, false, List, ap, Some, None, Ok, Err, Result, [], ◌++◌, replicate, codes, refl}
 use Rattle.ossl_aes.specs.Field.{sub, unsub, times, power}
-use Rattle.ossl_aes.specs.Cipher.{add, encrypted, decrypted, cipher, inv_cipher, rounds, inv_rounds, schedule, key_words}
+use Rattle.ossl_aes.specs.Cipher.{add, encrypted, decrypted, cipher, inv_cipher, rounds, inv_rounds, schedule}
+use Rattle.ossl_aes.specs.Cipher.{key_words}
 use Rattle.ossl_codes.specs.declared.code.Bits.TheVariants.{B128, B192}
 use Rattle.ossl_codes.specs.declared.code.AesMode.TheVariants.{Ecb, Cbc, Cfb, Ofb, Ctr}
 use Rattle.ossl_codes.specs.declared.code.Code.TheVariants.{Aes, Cmac}
@@ -26,19 +27,22 @@ block_back = refl
 
 -- what a padded message of that one block in CBC gives, by its IV
 abbrev pub by_iv : List ℕ → Result (List ℕ) FinishRefused
-by_iv iv = standard_result (Aes B192 Cbc) None (record (with_iv key iv) { direction = Decrypt }) (unhex (codes "dda97ca4864cdfe06eaf70a0ec0d7191"))
+by_iv iv = standard_result (Aes B192 Cbc) None (record (with_iv key iv) { direction = Decrypt })
+    (unhex (codes "dda97ca4864cdfe06eaf70a0ec0d7191"))
 
 through_padding : (iv : List ℕ) → by_iv iv ≡ unpadded (add block iv)
 unfolding checked
 through_padding iv = ap (λ block. unpadded (add block iv)) block_back
 
 -- the last byte is 1
-pub one_byte : by_iv (unhex (codes "000000000000000000000000000000fe")) ≡ Ok (unhex (codes "00112233445566778899aabbccddee"))
+pub one_byte : by_iv (unhex (codes "000000000000000000000000000000fe"))
+    ≡ Ok (unhex (codes "00112233445566778899aabbccddee"))
 unfolding add
 one_byte = through_padding (unhex (codes "000000000000000000000000000000fe"))
 
 -- the last two are 2
-pub two_bytes : by_iv (unhex (codes "0000000000000000000000000000ecfd")) ≡ Ok (unhex (codes "00112233445566778899aabbccdd"))
+pub two_bytes : by_iv (unhex (codes "0000000000000000000000000000ecfd"))
+    ≡ Ok (unhex (codes "00112233445566778899aabbccdd"))
 unfolding add
 two_bytes = through_padding (unhex (codes "0000000000000000000000000000ecfd"))
 
@@ -68,7 +72,8 @@ unfolding add
 bytes_differ = through_padding (unhex (codes "000000000000000000000000000000fd"))
 
 -- FIPS 197, C.1, without padding
-ecb_block : standard_result (Aes B128 Ecb) None (record (keyed (unhex (codes "000102030405060708090a0b0c0d0e0f"))) { pad = false }) block
+ecb_block : standard_result (Aes B128 Ecb) None
+    (record (keyed (unhex (codes "000102030405060708090a0b0c0d0e0f"))) { pad = false }) block
     ≡ Ok (unhex (codes "69c4e0d86a7b0430d8cdb78070b4c55a"))
 unfolding blocks sub times power add cipher rounds schedule key_words
 ecb_block = refl
@@ -98,7 +103,8 @@ unfolding blocks add
 cfb_block = ap (λ stream. Ok (add vector_block stream ++ [])) iv_encrypted
 
 -- back, and the first three bytes alone
-cfb_back : standard_result (Aes B128 Cfb) None (record (with_iv vector_key vector_iv) { direction = Decrypt }) (unhex (codes "3b3fd9"))
+cfb_back : standard_result (Aes B128 Cfb) None (record (with_iv vector_key vector_iv) { direction = Decrypt })
+    (unhex (codes "3b3fd9"))
     ≡ Ok (unhex (codes "6bc1be"))
 unfolding blocks add
 cfb_back = ap (λ stream. Ok (add (unhex (codes "3b3fd9")) stream ++ [])) iv_encrypted
@@ -108,7 +114,8 @@ ofb_block : standard_result (Aes B128 Ofb) None (with_iv vector_key vector_iv) v
 unfolding blocks add
 ofb_block = ap (λ stream. Ok (add vector_block stream ++ [])) iv_encrypted
 
-ctr_block : standard_result (Aes B128 Ctr) None (with_iv vector_key (unhex (codes "f0f1f2f3f4f5f6f7f8f9fafbfcfdfeff"))) vector_block
+ctr_block : standard_result (Aes B128 Ctr) None (with_iv vector_key (unhex (codes "f0f1f2f3f4f5f6f7f8f9fafbfcfdfeff")))
+    vector_block
     ≡ Ok (unhex (codes "874d6191b620e3261bef6864990db6ce"))
 unfolding blocks sub times power add cipher rounds schedule key_words
 ctr_block = refl
@@ -118,10 +125,12 @@ counter_wraps : next_counter (replicate 16 255) ≡ replicate 16 0
 counter_wraps = refl
 
 -- SP 800-38B, D.1: no bytes, and one block
-pub cmac_of_nothing : standard_result Cmac (Some (Aes B128 Cbc)) (keyed vector_key) [] ≡ Ok (unhex (codes "bb1d6929e95937287fa37d129b756746"))
+pub cmac_of_nothing : standard_result Cmac (Some (Aes B128 Cbc)) (keyed vector_key) []
+    ≡ Ok (unhex (codes "bb1d6929e95937287fa37d129b756746"))
 unfolding mac_from chained sub times power add cipher rounds schedule key_words
 cmac_of_nothing = refl
 
-cmac_of_a_block : standard_result Cmac (Some (Aes B128 Cbc)) (keyed vector_key) vector_block ≡ Ok (unhex (codes "070a16b46b4d4144f79bdd9dd04a287c"))
+cmac_of_a_block : standard_result Cmac (Some (Aes B128 Cbc)) (keyed vector_key) vector_block
+    ≡ Ok (unhex (codes "070a16b46b4d4144f79bdd9dd04a287c"))
 unfolding mac_from chained sub times power add cipher rounds schedule key_words
 cmac_of_a_block = refl

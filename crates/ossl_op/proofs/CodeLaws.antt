@@ -1,10 +1,12 @@
 -- A parameter that a code does not need is passed over, a code that is not directed does the same both ways, and an
 -- operation ends only with its own refusals.
-use Rattle.std.proofs.Common.{◌≡◌, ℕ, List, [], true≢false, false, Option, Result, Ok, Err, IfErr, IsTrue, refl, ap, lt-ltb, arith}
+use Rattle.std.proofs.Common.{◌≡◌, ℕ, List, [], true≢false, false, Option, Result, Ok, Err, IfErr, IsTrue, refl, ap}
+use Rattle.std.proofs.Common.{lt-ltb, arith}
 use Rattle.std.specs.Prelude.{Contains}
 use Rattle.ossl_codes.specs.declared.code.AesMode.TheVariants.{Ecb, Cbc, Cfb, Ofb, Ctr}
 use Rattle.ossl_codes.specs.declared.code.Code.{Code}
-use Rattle.ossl_codes.specs.declared.code.Code.TheVariants.{Sha1, Sha224, Sha256, Sha384, Sha512, Sha512t224, Sha512t256, Md5, Md4, Aes, ChaCha20, Rc4, Hmac, Cmac, Hkdf}
+use Rattle.ossl_codes.specs.declared.code.Code.TheVariants.{Sha1, Sha224, Sha256, Sha384, Sha512, Sha512t224}
+use Rattle.ossl_codes.specs.declared.code.Code.TheVariants.{Sha512t256, Md5, Md4, Aes, ChaCha20, Rc4, Hmac, Cmac, Hkdf}
 use Rattle.ossl_codes.specs.declared.param.KdfMode.{KdfMode}
 use Rattle.ossl_codes.specs.declared.param.KdfMode.TheVariants.{Both, Extract, Expand}
 use Rattle.ossl_codes.specs.declared.param.Param.{Param}
@@ -22,7 +24,8 @@ use Rattle.ossl_op.specs.Standard.{standard_result, is_decrypt}
 use Rattle.ossl_op.specs.Laws.{IsPassedOver, IsUndirected, is_directed, may_end_with}
 use Rattle.ossl_op.proofs.ModeLaws.{outcome-ecb, blocks-undirected, outcome-ends}
 
-pub passed_over : (code : Code) (steps : KdfMode) (which : Param) → ¬ Contains (needed code steps) which → IsPassedOver code steps which
+pub passed_over : (code : Code) (steps : KdfMode) (which : Param) → ¬ Contains (needed code steps) which
+    → IsPassedOver code steps which
 passed_over Sha1 steps which absent inner given bytes = (refl, refl)
 passed_over Sha224 steps which absent inner given bytes = (refl, refl)
 passed_over Sha256 steps which absent inner given bytes = (refl, refl)
@@ -101,15 +104,20 @@ undirected (Aes bits Ecb) directed inner params direction bytes = absurd (true�
 undirected (Aes bits Cbc) directed inner params direction bytes = absurd (true≢false directed)
 undirected (Aes bits Cfb) directed inner params direction bytes = absurd (true≢false directed)
 undirected (Aes bits Ofb) plain inner params direction bytes =
-    ap Ok (blocks-undirected _ _ kind.Ofb (is_decrypt direction) (is_decrypt params.direction) (λ v b. refl) (λ v b. refl) _ _ _)
+    ap Ok (blocks-undirected _ _ kind.Ofb (is_decrypt direction) (is_decrypt params.direction) (λ v b. refl)
+    (λ v b. refl) _ _ _)
 undirected (Aes bits Ctr) plain inner params direction bytes =
-    ap Ok (blocks-undirected _ _ kind.Ctr (is_decrypt direction) (is_decrypt params.direction) (λ v b. refl) (λ v b. refl) _ _ _)
+    ap Ok (blocks-undirected _ _ kind.Ctr (is_decrypt direction) (is_decrypt params.direction) (λ v b. refl)
+    (λ v b. refl) _ _ _)
 
-stream-ends : (r : Result (List ℕ) StreamEnd) → IfErr (result_map_both (λ text. text) (λ end. refusals.StreamEnd end.blocks) r) (λ refusal. IsTrue (may_end_with ChaCha20 refusal))
+stream-ends : (r : Result (List ℕ) StreamEnd)
+    → IfErr (result_map_both (λ text. text) (λ end. refusals.StreamEnd end.blocks) r)
+    (λ refusal. IsTrue (may_end_with ChaCha20 refusal))
 stream-ends (Ok text) = tt
 stream-ends (Err end) = refl
 
-pub ends : (code : Code) (inner : Option Code) (params : Params) (bytes : List ℕ) → IfErr (standard_result code inner params bytes) (λ refusal. IsTrue (may_end_with code refusal))
+pub ends : (code : Code) (inner : Option Code) (params : Params) (bytes : List ℕ)
+    → IfErr (standard_result code inner params bytes) (λ refusal. IsTrue (may_end_with code refusal))
 ends Sha1 inner params bytes = tt
 ends Sha224 inner params bytes = tt
 ends Sha256 inner params bytes = tt
@@ -124,10 +132,12 @@ ends Hmac inner params bytes = tt
 ends Cmac inner params bytes = tt
 ends Hkdf inner params bytes = tt
 ends (Aes bits Ecb) inner params bytes =
-    outcome-ends (encrypted (key_words bits) (bytes_of params.key)) (decrypted (key_words bits) (bytes_of params.key)) (λ refusal. IsTrue (may_end_with (Aes bits Ecb) refusal)) refl (λ rest low. lt-ltb rest 16 low) kind.Ecb
+    outcome-ends (encrypted (key_words bits) (bytes_of params.key)) (decrypted (key_words bits) (bytes_of params.key))
+    (λ refusal. IsTrue (may_end_with (Aes bits Ecb) refusal)) refl (λ rest low. lt-ltb rest 16 low) kind.Ecb
     (is_decrypt params.direction) params.pad (bytes_of params.iv) bytes
 ends (Aes bits Cbc) inner params bytes =
-    outcome-ends (encrypted (key_words bits) (bytes_of params.key)) (decrypted (key_words bits) (bytes_of params.key)) (λ refusal. IsTrue (may_end_with (Aes bits Cbc) refusal)) refl (λ rest low. lt-ltb rest 16 low) kind.Cbc
+    outcome-ends (encrypted (key_words bits) (bytes_of params.key)) (decrypted (key_words bits) (bytes_of params.key))
+    (λ refusal. IsTrue (may_end_with (Aes bits Cbc) refusal)) refl (λ rest low. lt-ltb rest 16 low) kind.Cbc
     (is_decrypt params.direction) params.pad (bytes_of params.iv) bytes
 ends (Aes bits Cfb) inner params bytes = tt
 ends (Aes bits Ofb) inner params bytes = tt

@@ -7,12 +7,14 @@ use Rattle.ossl_op.specs.declared.params.Params.{Params}
 
 -- the bytes of hexadecimal digits
 abbrev pub unhex : List ℕ → List ℕ
-unhex (high ∷ low ∷ digits) = (unwrap_or (hex_digit_value high) 0 * 16 + unwrap_or (hex_digit_value low) 0) ∷ unhex digits
+unhex (high ∷ low ∷ digits) =
+    (unwrap_or (hex_digit_value high) 0 * 16 + unwrap_or (hex_digit_value low) 0) ∷ unhex digits
 unhex _ = []
 
 -- no parameter is given: encryption, with padding, both steps
 abbrev pub plain : Params
-plain = record { direction = Encrypt; pad = true; key = None; iv = None; salt = None; info = None; mode = Both; len = None }
+plain =
+    record { direction = Encrypt; pad = true; key = None; iv = None; salt = None; info = None; mode = Both; len = None }
 
 -- with a key
 abbrev pub keyed : List ℕ → Params

@@ -1,5 +1,7 @@
--- Laws of the modes: ECB has no use for an initial value, OFB and CTR none for the direction, and what ends with which refusal.
-use Rattle.std.proofs.Common.{mod-lt, ◌≡◌, ℕ, zero, suc, ◌+◌, ◌/◌, ◌%◌, ◌<◌, ◌++◌, List, length, take, drop, Bool, true, false, nat_eq, Result, Ok, Err, IfErr, if◌then◌else◌, refl, ap, ap₂, ◌∙◌, arith}
+-- Laws of the modes: ECB has no use for an initial value, OFB and CTR none for the direction, and what ends with which
+-- refusal.
+use Rattle.std.proofs.Common.{mod-lt, ◌≡◌, ℕ, zero, suc, ◌+◌, ◌/◌, ◌%◌, ◌<◌, ◌++◌, List, length, take, drop, Bool, true}
+use Rattle.std.proofs.Common.{false, nat_eq, Result, Ok, Err, IfErr, if◌then◌else◌, refl, ap, ap₂, ◌∙◌, arith}
 use Rattle.ossl_modes.specs.declared.kinds.FinishRefused.{FinishRefused}
 use Rattle.ossl_modes.specs.declared.kinds.FinishRefused.TheVariants.{WrongFinalBlock, BadDecrypt}
 use Rattle.ossl_modes.specs.declared.kinds.ModeKind.{ModeKind}
@@ -7,7 +9,8 @@ use Rattle.ossl_modes.specs.declared.kinds.ModeKind.TheVariants.{Ecb, Cbc, Cfb, 
 use Rattle.ossl_modes.specs.Modes.{block_out, block_next, before, padded, blocks, checked, equations, outcome}
 
 module _ (e d : List ℕ → List ℕ) where
-  pub blocks-ecb : (decrypt : Bool) (n : ℕ) (v w bs : List ℕ) → blocks e d Ecb decrypt n v bs ≡ blocks e d Ecb decrypt n w bs
+  pub blocks-ecb : (decrypt : Bool) (n : ℕ) (v w bs : List ℕ)
+      → blocks e d Ecb decrypt n v bs ≡ blocks e d Ecb decrypt n w bs
   unfolding blocks
   blocks-ecb decrypt zero v w bs = refl
   blocks-ecb false (suc n) v w bs = ap (λ rest. e (take 16 bs) ++ rest) (blocks-ecb false n v w (drop 16 bs))
@@ -20,14 +23,18 @@ module _ (e d : List ℕ → List ℕ) where
   checked-ecb (suc (suc n)) v w bs = ap (before (d (take 16 bs))) (checked-ecb (suc n) v w (drop 16 bs))
 
   -- ECB has no use for an initial value
-  pub outcome-ecb : (decrypt pad : Bool) (v w bs : List ℕ) → outcome e d Ecb decrypt pad v bs ≡ outcome e d Ecb decrypt pad w bs
+  pub outcome-ecb : (decrypt pad : Bool) (v w bs : List ℕ)
+      → outcome e d Ecb decrypt pad v bs ≡ outcome e d Ecb decrypt pad w bs
   outcome-ecb true true v w bs =
-      ap (λ text. if nat_eq (length bs % 16) 0 then text else Err (WrongFinalBlock (length bs % 16))) (checked-ecb ((length bs + 15) / 16) v w bs)
+      ap (λ text. if nat_eq (length bs % 16) 0 then text else Err (WrongFinalBlock (length bs % 16)))
+      (checked-ecb ((length bs + 15) / 16) v w bs)
   outcome-ecb true false v w bs =
-      ap (λ text. if nat_eq (length bs % 16) 0 then Ok text else Err (WrongFinalBlock (length bs % 16))) (blocks-ecb true ((length bs + 15) / 16) v w bs)
+      ap (λ text. if nat_eq (length bs % 16) 0 then Ok text else Err (WrongFinalBlock (length bs % 16)))
+      (blocks-ecb true ((length bs + 15) / 16) v w bs)
   outcome-ecb false true v w bs = ap Ok (blocks-ecb false ((length (padded bs) + 15) / 16) v w (padded bs))
   outcome-ecb false false v w bs =
-      ap (λ text. if nat_eq (length bs % 16) 0 then Ok text else Err (WrongFinalBlock (length bs % 16))) (blocks-ecb false ((length bs + 15) / 16) v w bs)
+      ap (λ text. if nat_eq (length bs % 16) 0 then Ok text else Err (WrongFinalBlock (length bs % 16)))
+      (blocks-ecb false ((length bs + 15) / 16) v w bs)
 
   -- a mode whose blocks come out and go on alike in both directions does the same work in both
   pub blocks-undirected : (kind : ModeKind) (x y : Bool)
@@ -41,7 +48,8 @@ module _ (e d : List ℕ → List ℕ) where
       (blocks-undirected kind x y out next n (block_next e kind x v (take 16 bs)) (drop 16 bs)
       ∙ ap (λ w. blocks e d kind y n w (drop 16 bs)) (next v (take 16 bs)))
 
-  module _ (P : FinishRefused → Type 0) (bad : P BadDecrypt) (wrong : (rest : ℕ) → rest < 16 → P (WrongFinalBlock rest)) where
+  module _ (P : FinishRefused → Type 0) (bad : P BadDecrypt)
+      (wrong : (rest : ℕ) → rest < 16 → P (WrongFinalBlock rest)) where
     before-ends : (text : List ℕ) (r : Result (List ℕ) FinishRefused) → IfErr r P → IfErr (before text r) P
     before-ends text (Ok x) ends = tt
     before-ends text (Err refusal) ends = ends
@@ -63,15 +71,19 @@ module _ (e d : List ℕ → List ℕ) where
 
     whole-ends : (bs : List ℕ) (r : Result (List ℕ) FinishRefused) → IfErr r P
         → IfErr (if nat_eq (length bs % 16) 0 then r else Err (WrongFinalBlock (length bs % 16))) P
-    whole-ends bs r ends = length-ends (nat_eq (length bs % 16) 0) (length bs % 16) r (mod-lt (length bs) (omega arith)) ends
+    whole-ends bs r ends =
+        length-ends (nat_eq (length bs % 16) 0) (length bs % 16) r (mod-lt (length bs) (omega arith)) ends
 
     -- a text of ECB or CBC ends well, without its padding, or without a whole block
-    pub outcome-ends : (kind : ModeKind) (decrypt pad : Bool) (v bs : List ℕ) → IfErr (outcome e d kind decrypt pad v bs) P
-    outcome-ends Ecb true true v bs = whole-ends bs (checked e d Ecb true ((length bs + 15) / 16) v bs) (checked-ends Ecb _ v bs)
+    pub outcome-ends : (kind : ModeKind) (decrypt pad : Bool) (v bs : List ℕ)
+        → IfErr (outcome e d kind decrypt pad v bs) P
+    outcome-ends Ecb true true v bs =
+        whole-ends bs (checked e d Ecb true ((length bs + 15) / 16) v bs) (checked-ends Ecb _ v bs)
     outcome-ends Ecb false true v bs = tt
     outcome-ends Ecb true false v bs = whole-ends bs (Ok (equations e d Ecb true v bs)) tt
     outcome-ends Ecb false false v bs = whole-ends bs (Ok (equations e d Ecb false v bs)) tt
-    outcome-ends Cbc true true v bs = whole-ends bs (checked e d Cbc true ((length bs + 15) / 16) v bs) (checked-ends Cbc _ v bs)
+    outcome-ends Cbc true true v bs =
+        whole-ends bs (checked e d Cbc true ((length bs + 15) / 16) v bs) (checked-ends Cbc _ v bs)
     outcome-ends Cbc false true v bs = tt
     outcome-ends Cbc true false v bs = whole-ends bs (Ok (equations e d Cbc true v bs)) tt
     outcome-ends Cbc false false v bs = whole-ends bs (Ok (equations e d Cbc false v bs)) tt

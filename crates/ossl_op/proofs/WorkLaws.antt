@@ -4,7 +4,8 @@ use Rattle.std.proofs.lemmas.List.{append_cancel_left, append-nil}
 use Rattle.ossl_modes.specs.declared.kinds.FinishRefused.{FinishRefused}
 use Rattle.ossl_modes.specs.Modes.{before}
 use Rattle.ossl_op.specs.Standard.{standard_result, unchecked_text}
-use Rattle.ossl_op.specs.Work.{Work, Appends, IsBeginning, carried_on, result_of, result_with, unchecked_of, unchecked_with}
+use Rattle.ossl_op.specs.Work.{Work, Appends, IsBeginning, carried_on, result_of, result_with, unchecked_of}
+use Rattle.ossl_op.specs.Work.{unchecked_with}
 use Rattle.ossl_op.specs.Running.{GivesAtEnd}
 
 -- what was appended, whichever way it is told
@@ -19,7 +20,8 @@ pub appends_nothing : (old new : List ℕ) → new ≡ old → Appends old new
 appends_nothing old new same = ([], same ∙ sym (append-nil old))
 
 -- a call that appends a text, or refuses and appends nothing
-pub appends_or_not : {T E : Type 0} (r : Result T E) (P : Type 0) (old new : List ℕ) → OnOk r (Appends old new) → OnErr r (P × (new ≡ old)) → Appends old new
+pub appends_or_not : {T E : Type 0} (r : Result T E) (P : Type 0) (old new : List ℕ) → OnOk r (Appends old new)
+    → OnErr r (P × (new ≡ old)) → Appends old new
 appends_or_not (Ok x) P old new given kept = given
 appends_or_not (Err x) P old new given kept = appends_nothing old new kept.1
 
@@ -29,17 +31,20 @@ on_err (Ok x) holds = tt
 on_err (Err x) holds = holds
 
 -- the bytes fed, and the rest
-pub result-fed : (work : Work) (bytes text rest : List ℕ) → result_with (carried_on work bytes text) rest ≡ result_with work (bytes ++ rest)
+pub result-fed : (work : Work) (bytes text rest : List ℕ)
+    → result_with (carried_on work bytes text) rest ≡ result_with work (bytes ++ rest)
 result-fed work bytes text rest =
     ap (λ (fed : List ℕ). standard_result work.code work.inner work.params fed) (append_assoc work.fed bytes rest)
 
-pub unchecked-fed : (work : Work) (bytes text rest : List ℕ) → unchecked_with (carried_on work bytes text) rest ≡ unchecked_with work (bytes ++ rest)
+pub unchecked-fed : (work : Work) (bytes text rest : List ℕ)
+    → unchecked_with (carried_on work bytes text) rest ≡ unchecked_with work (bytes ++ rest)
 unchecked-fed work bytes text rest =
     ap (λ (fed : List ℕ). unchecked_text work.code work.params fed) (append_assoc work.fed bytes rest)
 
 -- nothing comes yet
 pub result-whole : (work : Work) → result_of work ≡ result_with work []
-result-whole work = ap (λ (fed : List ℕ). standard_result work.code work.inner work.params fed) (sym (append-nil work.fed))
+result-whole work =
+    ap (λ (fed : List ℕ). standard_result work.code work.inner work.params fed) (sym (append-nil work.fed))
 
 pub unchecked-whole : (work : Work) → unchecked_of work ≡ unchecked_with work []
 unchecked-whole work = ap (λ (fed : List ℕ). unchecked_text work.code work.params fed) (sym (append-nil work.fed))
@@ -53,16 +58,19 @@ at_end_fed work bytes text old f g same goes_on was = record {
 }
 
 -- and ends
-pub at_end_finished : (work : Work) (f : List ℕ → List ℕ) (bytes text : List ℕ) → GivesAtEnd work f → bytes ≡ f [] → bytes ≡ text
+pub at_end_finished : (work : Work) (f : List ℕ → List ℕ) (bytes text : List ℕ) → GivesAtEnd work f → bytes ≡ f []
+    → bytes ≡ text
     → result_of work ≡ Ok (work.given ++ text)
 at_end_finished work f bytes text was all given =
     result-whole work ∙ was.text_is [] ∙ ap Ok (sym all ∙ given ∙ ap (λ (t : List ℕ). t ++ text) (sym was.nothing))
 
-pub at_end_beginning : (work : Work) (f : List ℕ → List ℕ) → GivesAtEnd work f → IsBeginning work.given (unchecked_of work)
+pub at_end_beginning : (work : Work) (f : List ℕ → List ℕ) → GivesAtEnd work f
+    → IsBeginning work.given (unchecked_of work)
 at_end_beginning work f was = (unchecked_of work, ap (λ (t : List ℕ). t ++ unchecked_of work) was.nothing)
 
 -- the text before an outcome is told once
-pub before_cancel : (old text : List ℕ) (x y : Result (List ℕ) FinishRefused) → before old x ≡ before (old ++ text) y → x ≡ before text y
+pub before_cancel : (old text : List ℕ) (x y : Result (List ℕ) FinishRefused) → before old x ≡ before (old ++ text) y
+    → x ≡ before text y
 before_cancel old text (Ok x) (Ok y) same =
     let joined : old ++ x ≡ old ++ text ++ y = cc in
     ap Ok (append_cancel_left old x (text ++ y) (joined ∙ append_assoc old text y))
@@ -70,7 +78,8 @@ before_cancel old text (Ok x) (Err y) same = absurd (cc)
 before_cancel old text (Err x) (Ok y) same = absurd (cc)
 before_cancel old text (Err x) (Err y) same = same
 
-pub before_finished : (old new text : List ℕ) (x : Result (List ℕ) FinishRefused) → before old x ≡ Ok new → new ≡ old ++ text → x ≡ Ok text
+pub before_finished : (old new text : List ℕ) (x : Result (List ℕ) FinishRefused) → before old x ≡ Ok new
+    → new ≡ old ++ text → x ≡ Ok text
 before_finished old new text (Ok x) ends given =
     let joined : old ++ x ≡ new = cc in ap Ok (append_cancel_left old x text (joined ∙ given))
 before_finished old new text (Err x) ends given = absurd (cc)

@@ -1,5 +1,5 @@
 -- Laws of beginnings and results.
-use Rattle.std.specs.Prelude.{◌≡◌, ℕ, Bool, true, false, nat_lt, Option, None, List}
+use Rattle.std.specs.Prelude.{◌≡◌, ℕ, Bool, true, false, nat_lt, Option, None, List, IfErr, IsTrue}
 use Rattle.ossl_codes.specs.declared.code.AesMode.TheVariants.{Ecb, Cbc, Cfb}
 use Rattle.ossl_codes.specs.declared.code.Code.{Code}
 use Rattle.ossl_codes.specs.declared.code.Code.TheVariants.{Aes, ChaCha20}
@@ -23,6 +23,11 @@ may_end_with (Aes bits Cbc) BadDecrypt = true
 may_end_with ChaCha20 (StreamEnd blocks) = true
 may_end_with _ _ = false
 
+-- whatever bytes it is fed, the operation gives a text or ends with a refusal of its code
+abbrev pub EndsByCode : Code → Option Code → Params → Type 0
+EndsByCode code inner params =
+    (bytes : List ℕ) → IfErr (standard_result code inner params bytes) (λ refusal. IsTrue (may_end_with code refusal))
+
 -- whether the two directions differ: in ECB, CBC and CFB (SP 800-38A, 6.1 to 6.3)
 abbrev pub is_directed : Code → Bool
 is_directed (Aes bits Ecb) = true
@@ -33,7 +38,8 @@ is_directed _ = false
 -- the code does the same work in every direction
 abbrev pub IsUndirected : Code → Type 0
 IsUndirected code = (inner : Option Code) (params : Params) (direction : Direction) (bytes : List ℕ)
-    → standard_result code inner (record params { direction = direction }) bytes ≡ standard_result code inner params bytes
+    → standard_result code inner (record params { direction = direction }) bytes
+    ≡ standard_result code inner params bytes
 
 -- the parameters without one of them
 abbrev pub without : Param → Params → Params
@@ -52,4 +58,5 @@ abbrev pub IsPassedOver : Code → KdfMode → Param → Type 0
 IsPassedOver code steps which = (inner : Option Code) (given : Params) (bytes : List ℕ)
     → let params = record given { mode = steps } in
     (begins code (inner_without which inner) (without which params) ≡ begins code inner params)
-    × (standard_result code (inner_without which inner) (without which params) bytes ≡ standard_result code inner params bytes)
+    × (standard_result code (inner_without which inner) (without which params) bytes
+    ≡ standard_result code inner params bytes)

@@ -1,6 +1,11 @@
--- The one relation between an operation context and its work: what the algorithm's state makes of whatever bytes come yet, put
+-- The one relation between an operation context and its work: what the algorithm's state makes of whatever bytes come
+-- yet, put
 -- after what was given, is the standard's result of all bytes.
-use Rattle.std.specs.Prelude.{◌≡◌, ℕ, List, [], ◌++◌, Result, Ok, Err}
+use Rattle.std.specs.Prelude.{◌≡◌, ℕ, List, [], ◌++◌, Option, Some, Result, Ok, Err}
+use Rattle.std.specs.Option.{option_and_then}
+use Rattle.ossl_codes.specs.declared.code.Bits.{Bits}
+use Rattle.ossl_codes.specs.declared.code.Code.{Code}
+use Rattle.ossl_codes.specs.declared.code.Code.TheVariants.{Hkdf}
 use Rattle.ossl_digests.specs.declared.digester.Digester.{Digester}
 use Rattle.ossl_digests.specs.declared.hash.Hash.{Hash}
 use Rattle.ossl_digests.specs.Digest.{digest}
@@ -24,7 +29,11 @@ use Rattle.ossl_op.specs.declared.derived.Derived.{Derived}
 use Rattle.ossl_op.specs.declared.context.State.{State}
 use Rattle.ossl_op.specs.declared.context.State.TheVariants as state
 use Rattle.ossl_op.specs.declared.context.OpCtx.{OpCtx}
-use Rattle.ossl_op.specs.Work.{Work, result_with, unchecked_with}
+use Rattle.ossl_op.specs.declared.params.BeginRefused.{BeginRefused}
+use Rattle.ossl_op.specs.declared.params.BeginRefused.TheVariants.{NoMemory}
+use Rattle.ossl_op.specs.declared.params.Params.{Params}
+use Rattle.ossl_op.specs.Tables.{cbc_bits, hash_of}
+use Rattle.ossl_op.specs.Work.{Work, begun, result_with, unchecked_with}
 
 -- nothing is given before the end, and then this text, by the bytes that come yet
 pub record GivesAtEnd (work : Work) (text : List ℕ → List ℕ) : Type 0 where
@@ -64,7 +73,8 @@ streamed text (Err end) = Err (StreamEnd end.blocks)
 
 -- a text through ChaCha20 (RFC 8439)
 pub record RunsChaCha (stream : ChaChaState) (work : Work) : Type 0 where
-  pub text_is : (rest : List ℕ) → result_with work rest ≡ streamed (work.given ++ text_of stream rest) (end_of stream rest)
+  pub text_is : (rest : List ℕ)
+      → result_with work rest ≡ streamed (work.given ++ text_of stream rest) (end_of stream rest)
   pub unchecked_is : (rest : List ℕ) → unchecked_with work rest ≡ work.given ++ text_of stream rest
 
 -- a text through RC4
@@ -88,3 +98,17 @@ RunsState (state.Hkdf derived) work = RunsHkdf derived work
 -- the context runs this work: its code, inner code and parameters, on the bytes fed, of which it gave this
 abbrev pub Runs : OpCtx → Work → Type 0
 Runs context work = RunsState context.state work
+
+-- the state runs the code's work on this hash, whichever inner code it came from
+abbrev pub RunsOnHash : Code → Hash → Params → State → Type 0
+RunsOnHash code hash params state =
+    (inner : Option Code) → option_and_then hash_of inner ≡ Some hash → RunsState state (begun code inner params)
+
+-- likewise on the cipher of this key length
+abbrev pub RunsOnCipher : Code → Bits → Params → State → Type 0
+RunsOnCipher code bits params state =
+    (inner : Option Code) → option_and_then cbc_bits inner ≡ Some bits → RunsState state (begun code inner params)
+
+-- want of memory, which a key derivation alone has where it begins
+abbrev pub IsWantOfMemory : Code → BeginRefused → Type 0
+IsWantOfMemory code refusal = (refusal ≡ NoMemory) × (code ≡ Hkdf)

@@ -6,7 +6,8 @@ use Rattle.ossl_codes.specs.declared.code.Bits.TheVariants.{B128, B192, B256}
 use Rattle.ossl_codes.specs.declared.code.AesMode.{AesMode}
 use Rattle.ossl_codes.specs.declared.code.AesMode.TheVariants as mode
 use Rattle.ossl_codes.specs.declared.code.Code.{Code}
-use Rattle.ossl_codes.specs.declared.code.Code.TheVariants.{Sha1, Sha224, Sha256, Sha384, Sha512, Sha512t224, Sha512t256, Md5, Md4, Aes, ChaCha20, Rc4, Hmac, Cmac, Hkdf}
+use Rattle.ossl_codes.specs.declared.code.Code.TheVariants.{Sha1, Sha224, Sha256, Sha384, Sha512, Sha512t224}
+use Rattle.ossl_codes.specs.declared.code.Code.TheVariants.{Sha512t256, Md5, Md4, Aes, ChaCha20, Rc4, Hmac, Cmac, Hkdf}
 use Rattle.ossl_codes.specs.declared.param.KdfMode.{KdfMode}
 use Rattle.ossl_codes.specs.declared.param.KdfMode.TheVariants as kdf
 use Rattle.ossl_codes.specs.declared.param.Param.{Param}
@@ -62,7 +63,8 @@ hkdf_mode kdf.Both = hkdf.Both
 hkdf_mode kdf.Extract = hkdf.Extract
 hkdf_mode kdf.Expand = hkdf.Expand
 
--- the parameters that a code needs, in the order Key, Iv, Inner, Len; it passes over every other one but HKDF's salt and
+-- the parameters that a code needs, in the order Key, Iv, Inner, Len; it passes over every other one but HKDF's salt
+-- and
 -- info, which may be absent (EVP_EncryptInit(3), EVP_MAC(3), EVP_KDF(3))
 abbrev pub needed : Code → KdfMode → List Param
 needed (Aes bits mode.Ecb) steps = Key ∷ []
@@ -82,7 +84,8 @@ takes_inner Hkdf inner = is_some (option_and_then hash_of inner)
 takes_inner Cmac inner = is_some (option_and_then cbc_bits inner)
 takes_inner _ inner = true
 
--- whether a code takes a key of n bytes: AES and ChaCha20 their own length, CMAC that of its inner cipher, RC4 1 to 256, HMAC and HKDF any
+-- whether a code takes a key of n bytes: AES and ChaCha20 their own length, CMAC that of its inner cipher, RC4 1 to
+-- 256, HMAC and HKDF any
 abbrev pub takes_key : Code → Option Code → ℕ → Bool
 takes_key (Aes bits _) inner n = n == key_len bits
 takes_key Cmac inner n = option_map_or (λ bits. n == key_len bits) (option_and_then cbc_bits inner) true

@@ -6,7 +6,8 @@ use Rattle.ossl_modes.specs.declared.kinds.FinishRefused.TheVariants.{NoMemory}
 use Rattle.ossl_op.specs.declared.params.Params.{Params}
 use Rattle.ossl_op.specs.Standard.{standard_result, unchecked_text}
 
--- the code with its inner code and parameters, all bytes that the operation was fed, and all text that it has given, joined
+-- the code with its inner code and parameters, all bytes that the operation was fed, and all text that it has given,
+-- joined
 pub record Work : Type 0 where
   pub code : Code
   pub inner : Option Code
@@ -52,7 +53,8 @@ CarriesOn runs_before runs_after bytes old new =
 
 -- whatever work was run, all text given, and what was appended since, is the standard's result of all bytes fed
 abbrev pub EndsWell : (Work → Type 0) → List ℕ → List ℕ → Type 0
-EndsWell runs old new = (work : Work) (text : List ℕ) → new ≡ old ++ text → runs work → result_of work ≡ Ok (work.given ++ text)
+EndsWell runs old new =
+    (work : Work) (text : List ℕ) → new ≡ old ++ text → runs work → result_of work ≡ Ok (work.given ++ text)
 
 -- whatever work was run, the standard refuses all bytes fed with this refusal, or it is that of memory
 abbrev pub EndsRefused : (Work → Type 0) → FinishRefused → Type 0

@@ -1,7 +1,6 @@
 //! How an operation begins.
 
-ghost use Rattle.std.specs.Prelude.{◌≡◌, ◌⊎◌, ◌*◌, ℕ, List, Option, true, IfOk, IfErr, length, unwrap_or};
-ghost use Rattle.std.specs.Option.{option_and_then};
+ghost use Rattle.std.specs.Prelude.{◌≡◌, ◌⊎◌, ◌*◌, ℕ, List, Option, true, IfOk, IfErr, OnOk, length, unwrap_or};
 ghost use Rattle.ossl_codes.specs.declared.code.Code.{Code as TheCode};
 ghost use Rattle.ossl_aes.specs.Cipher.{encrypted};
 ghost use Rattle.ossl_aes.specs.State.{IsSize};
@@ -13,9 +12,9 @@ ghost use Rattle.ossl_modes.specs.Run.{outcome_of, whole_blocks_of};
 ghost use Rattle.ossl_op.specs.declared.params.BeginRefused.{BeginRefused as TheRefusal};
 ghost use Rattle.ossl_op.specs.declared.params.Params.{Params as TheParams};
 ghost use Rattle.ossl_op.specs.Begins.{begins, bytes_of};
-ghost use Rattle.ossl_op.specs.Running.{Runs, RunsState};
+ghost use Rattle.ossl_op.specs.Running.{IsWantOfMemory, Runs, RunsOnCipher, RunsOnHash, RunsState};
 ghost use Rattle.ossl_op.specs.Standard.{aes_blocks, aes_outcome};
-ghost use Rattle.ossl_op.specs.Tables.{cbc_bits, hash_of, hkdf_mode, key_len, takes_iv};
+ghost use Rattle.ossl_op.specs.Tables.{hash_of, hkdf_mode, key_len, takes_iv};
 ghost use Rattle.ossl_op.specs.Work.{begun};
 
 use crate::context::{OpCtx, State};
@@ -35,8 +34,9 @@ use ossl_modes::Mode;
 use std::alloc::Global;
 
 impl OpCtx {
-    /// An operation of this code that was fed nothing, or the first refusal in the order of `BeginRefused`. `inner` is the
-    /// digest or cipher that a MAC or a key derivation runs on. It takes memory for HKDF alone: the bytes that it gives.
+    /// An operation of this code that was fed nothing, or the first refusal in the order of `BeginRefused`. `inner` is
+    /// the digest or cipher that a MAC or a key derivation runs on. It takes memory for HKDF alone: the bytes that it
+    /// gives.
     pub fn begin(
         alloc: Global,
         code: Code,
@@ -44,8 +44,9 @@ impl OpCtx {
         params: &Params,
     ) -> Result<OpCtx, BeginRefused>
         ensures refused { (refusal : TheRefusal) → begins code inner params.now ≡ Err refusal → result ≡ Err refusal }
-        ensures begun { IfOk result (λ context. (begins code inner params.now ≡ Ok tt) × Runs context (begun code inner params.now)) }
-        ensures memory { begins code inner params.now ≡ Ok tt → IfErr result (λ refusal. (refusal ≡ BeginRefused.NoMemory) × (code ≡ Code.Hkdf)) }
+        ensures good { OnOk result (begins code inner params.now ≡ Ok tt) }
+        ensures begun { IfOk result (λ context. Runs context (begun code inner params.now)) }
+        ensures memory { begins code inner params.now ≡ Ok tt → IfErr result (IsWantOfMemory code) }
     {
         judge(code, inner, params)?;
         let state = state_of(alloc, code, inner, params)?;
@@ -62,7 +63,7 @@ fn state_of(
 ) -> Result<State, BeginRefused>
     requires { begins code inner params.now ≡ Ok tt }
     ensures begun { IfOk result (λ state. RunsState state (begun code inner params.now)) }
-    ensures refused { IfErr result (λ refusal. (refusal ≡ BeginRefused.NoMemory) × (code ≡ Code.Hkdf)) }
+    ensures refused { IfErr result (IsWantOfMemory code) }
 {
     match code {
         Code::Aes { bits, mode } => Ok(of_aes(bits, mode, params)),
@@ -171,7 +172,7 @@ fn of_rc4(params: &Params) -> State
 }
 
 fn of_hmac(hash: Hash, params: &Params) -> State
-    ensures { (inner : Option TheCode) → option_and_then hash_of inner ≡ Some hash → RunsState result (begun Code.Hmac inner params.now) }
+    ensures { RunsOnHash Code.Hmac hash params.now result }
 {
     State::Hmac(Hmac::new(hash, bytes_of(&params.key)))
 }
@@ -186,7 +187,7 @@ fn cmac_of<const NK: usize, const WORDS: usize>(key: &[u8]) -> Cmac<Aes<NK, WORD
 
 fn of_cmac(bits: Bits, params: &Params) -> State
     requires { length (bytes_of params.now.key) ≡ key_len bits }
-    ensures { (inner : Option TheCode) → option_and_then cbc_bits inner ≡ Some bits → RunsState result (begun Code.Cmac inner params.now) }
+    ensures { RunsOnCipher Code.Cmac bits params.now result }
 {
     let key = bytes_of(&params.key);
     match bits {
@@ -199,7 +200,7 @@ fn of_cmac(bits: Bits, params: &Params) -> State
 // HKDF works here already, so that its bytes are all that is kept, and no copy of the key.
 fn of_hkdf(alloc: Global, hash: Hash, params: &Params) -> Result<State, BeginRefused>
     requires { ¬ IsTooLong (hkdf_mode params.now.mode) hash (unwrap_or params.now.len 0) }
-    ensures begun { IfOk result (λ state. (inner : Option TheCode) → option_and_then hash_of inner ≡ Some hash → RunsState state (begun Code.Hkdf inner params.now)) }
+    ensures begun { IfOk result (RunsOnHash Code.Hkdf hash params.now) }
     ensures refused { IfErr result (λ refusal. refusal ≡ BeginRefused.NoMemory) }
 {
     let key = bytes_of(&params.key);

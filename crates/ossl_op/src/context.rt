@@ -41,9 +41,9 @@ impl OpCtx {
     ghost use Rattle.ossl_op.specs.Work.{Appends, CarriesOn, EndsRefused, EndsWell, GaveBeginning};
     ghost use Rattle.ossl_op.specs.Running.{Runs};
 
-    /// Takes the next bytes in, and appends what text is known by now: ciphers hold back what may yet be their last block,
-    /// digests, codes and derivations give nothing before their end, and HKDF passes the bytes over. Where memory is refused,
-    /// the context and `out` are as they were.
+    /// Takes the next bytes in, and appends what text is known by now: ciphers hold back what may yet be their last
+    /// block, digests, codes and derivations give nothing before their end, and HKDF passes the bytes over. Where
+    /// memory is refused, the context and `out` are as they were.
     pub fn feed(&mut self, bytes: &[u8], out: &mut Vec<u8>) -> Result<(), AllocError>
         ensures appends { Appends out.old.items out.new.items }
         ensures runs { OnOk result (CarriesOn (Runs self.old) (Runs self.new) bytes.now out.old.items out.new.items) }
@@ -64,8 +64,8 @@ impl OpCtx {
         }
     }
 
-    /// Appends what is left of the standard's result of all bytes fed, or refuses as the standard does and appends nothing.
-    /// Memory may be refused in place of any answer that appends.
+    /// Appends what is left of the standard's result of all bytes fed, or refuses as the standard does and appends
+    /// nothing. Memory may be refused in place of any answer that appends.
     pub fn finish(self, out: &mut Vec<u8>) -> Result<(), FinishRefused>
         ensures appends { Appends out.old.items out.new.items }
         ensures accepted { OnOk result (EndsWell (Runs self) out.old.items out.new.items) }

@@ -1,9 +1,8 @@
 //! Whether an operation may begin.
 
-ghost use Rattle.std.specs.Prelude.{◌≡◌, ℕ, List, IfErr, IsTrue, not, find};
+ghost use Rattle.std.specs.Prelude.{◌≡◌, not, find};
 ghost use Rattle.ossl_op.specs.Begins.{begins, bytes_of, is_given, limit_passed};
-ghost use Rattle.ossl_op.specs.Laws.{may_end_with};
-ghost use Rattle.ossl_op.specs.Standard.{standard_result};
+ghost use Rattle.ossl_op.specs.Laws.{EndsByCode};
 ghost use Rattle.ossl_op.specs.Tables.{needed};
 
 use crate::needs::needed;
@@ -12,15 +11,15 @@ use crate::tables::{inner_hash, takes_inner, takes_iv, takes_key};
 use ossl_base::Bytes;
 use ossl_codes::{Code, KdfMode, Param};
 
-/// Whether an operation of this code may begin: the first refusal in the order of `BeginRefused`, if there is one. `inner` is
-/// the digest or cipher that a MAC or a key derivation runs on. It takes no memory.
+/// Whether an operation of this code may begin: the first refusal in the order of `BeginRefused`, if there is one.
+/// `inner` is the digest or cipher that a MAC or a key derivation runs on. It takes no memory.
 ///
-/// Where the operation may begin, its standard's result of whatever bytes is a text, or one of the refusals of its code: for
-/// ECB and CBC a last block that is not whole or ends in no padding, for ChaCha20 the end of its key stream.
+/// Where the operation may begin, its standard's result of whatever bytes is a text, or one of the refusals of its
+/// code: for ECB and CBC a last block that is not whole or ends in no padding, for ChaCha20 the end of its key stream.
 #[tactic(auto, using(crate::proofs::CodeLaws::ends))]
 pub fn judge(code: Code, inner: Option<Code>, params: &Params) -> Result<(), BeginRefused>
     ensures begins { result ≡ begins code inner params.now }
-    ensures ends { (bytes : List ℕ) → IfErr (standard_result code inner params.now bytes) (λ refusal. IsTrue (may_end_with code refusal)) }
+    ensures ends { EndsByCode code inner params.now }
 {
     if let Some(which) = missing(code, inner, params) {
         return Err(BeginRefused::MissingParam { which });

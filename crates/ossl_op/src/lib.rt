@@ -1,6 +1,6 @@
-//! Operations on bytes by an algorithm's code: which parameters a code needs, and whether an operation may begin.
-//! A judgement is the first refusal in the order of the checks; what an operation gives is its standard's text of all bytes.
-//! The standards of the codes (FIPS 180-4, SP 800-38A, RFC 5869 and others); the order of checks is this project's. All work is constant.
+//! Operations on bytes by an algorithm's code: whether one may begin, and one type that runs any of them in pieces.
+//! A beginning is refused by the first check that fails; what an operation gives is its standard's result of all bytes.
+//! FIPS 180-4, SP 800-38A, RFC 5869 and others; the order of checks is this project's. Work grows with the bytes alone.
 #![tactic(auto)]
 
 mod algorithm;

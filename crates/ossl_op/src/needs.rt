@@ -8,7 +8,8 @@ ghost use Rattle.ossl_op.specs.Tables.{needed};
 use ossl_codes::{AesMode, Code, KdfMode, Param};
 
 /// The parameters that a code needs before an operation may begin, in the order in which they are looked for. `mode` is
-/// HKDF's, and no other code looks at it. Without a parameter that is not among them the operation begins and gives the same.
+/// HKDF's, and no other code looks at it. Without a parameter that is not among them the operation begins and gives the
+/// same.
 #[tactic(auto, using(crate::proofs::CodeLaws::passed_over))]
 pub fn needed(code: Code, mode: KdfMode) -> &'static [Param]
     ensures needed { result.now ≡ needed code mode }
@@ -30,7 +31,8 @@ pub fn needed(code: Code, mode: KdfMode) -> &'static [Param]
     }
 }
 
-/// Whether encryption and decryption differ: in ECB, CBC and CFB. Every other operation gives the same in both directions.
+/// Whether encryption and decryption differ: in ECB, CBC and CFB. Every other operation gives the same in both
+/// directions.
 #[tactic(auto, using(crate::proofs::CodeLaws::undirected))]
 pub fn is_directed(code: Code) -> bool
     ensures directed { result ≡ is_directed code }

@@ -3,7 +3,8 @@
 ghost use Rattle.std.specs.Prelude.{◌≡◌};
 ghost use Rattle.std.specs.Option.{option_and_then};
 ghost use Rattle.ossl_op.specs.Standard.{is_decrypt};
-ghost use Rattle.ossl_op.specs.Tables.{cbc_bits, hash_of, hkdf_mode, key_len, kind_of, takes_inner, takes_iv, takes_key};
+ghost use Rattle.ossl_op.specs.Tables.{cbc_bits, hash_of, hkdf_mode, key_len, kind_of, takes_inner, takes_iv};
+ghost use Rattle.ossl_op.specs.Tables.{takes_key};
 
 use ossl_codes::{AesMode, Bits, Code, Direction, KdfMode};
 use ossl_digests::Hash;

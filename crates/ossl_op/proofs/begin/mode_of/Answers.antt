@@ -12,8 +12,10 @@ returns-clause-text g c = λ bytes.
     let params = c.args.params.now in
     let words = c.expand-cipher.ensures ∙ ap (λ (key : List ℕ). schedule nk key (3 * nk + 28)) c.bytes_of.ensures in
     c.new.ensures.text bytes
-    ∙ (λ i. outcome (λ block. cipher (words i) (nk + 6) block) (λ block. inv_cipher (words i) (nk + 6) block) (c.kind_of.ensures i) (c.is_decrypt-decrypt.ensures i) params.pad c.initial_value-iv.result bytes)
-    ∙ outcome-iv (encrypted nk (bytes_of params.key)) (decrypted nk (bytes_of params.key)) c.args.mode (is_decrypt params.direction) _ _ _ bytes
+    ∙ (λ i. outcome (λ block. cipher (words i) (nk + 6) block) (λ block. inv_cipher (words i) (nk + 6) block)
+    (c.kind_of.ensures i) (c.is_decrypt-decrypt.ensures i) params.pad c.initial_value-iv.result bytes)
+    ∙ outcome-iv (encrypted nk (bytes_of params.key)) (decrypted nk (bytes_of params.key)) c.args.mode
+    (is_decrypt params.direction) _ _ _ bytes
     c.initial_value-iv.ensures c.bytes_of-2.ensures params.pad
 
 pub returns-clause-unchecked : goal.returns-clause-unchecked
@@ -22,6 +24,8 @@ returns-clause-unchecked g c = λ bytes.
     let params = c.args.params.now in
     let words = c.expand-cipher.ensures ∙ ap (λ (key : List ℕ). schedule nk key (3 * nk + 28)) c.bytes_of.ensures in
     c.new.ensures.unchecked bytes
-    ∙ (λ i. whole_blocks (λ block. cipher (words i) (nk + 6) block) (λ block. inv_cipher (words i) (nk + 6) block) (c.kind_of.ensures i) (c.is_decrypt-decrypt.ensures i) c.initial_value-iv.result bytes)
-    ∙ blocks-iv (encrypted nk (bytes_of params.key)) (decrypted nk (bytes_of params.key)) c.args.mode (is_decrypt params.direction) _ _ _ bytes
+    ∙ (λ i. whole_blocks (λ block. cipher (words i) (nk + 6) block) (λ block. inv_cipher (words i) (nk + 6) block)
+    (c.kind_of.ensures i) (c.is_decrypt-decrypt.ensures i) c.initial_value-iv.result bytes)
+    ∙ blocks-iv (encrypted nk (bytes_of params.key)) (decrypted nk (bytes_of params.key)) c.args.mode
+    (is_decrypt params.direction) _ _ _ bytes
     c.initial_value-iv.ensures c.bytes_of-2.ensures

@@ -4,7 +4,8 @@ use Rattle.ossl_op.proofs.at_end.DerivedAlgorithm.finish.Goals as goal
 
 pub returns-clause-accepted : goal.returns-clause-accepted
 returns-clause-accepted c = on_ok_weaker c.append.result
-    (λ appended. λ work text given was. at_end_finished work _ c.as_slice.result.now text was c.as_slice.ensures.value (same_text _ _ _ text appended given))
+    (λ appended. λ work text given was. at_end_finished work _ c.as_slice.result.now text was c.as_slice.ensures.value
+    (same_text _ _ _ text appended given))
     c.append.ensures.appended
 
 pub returns-clause-beginning : goal.returns-clause-beginning

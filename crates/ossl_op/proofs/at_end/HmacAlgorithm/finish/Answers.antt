@@ -8,7 +8,8 @@ use Rattle.ossl_op.proofs.at_end.HmacAlgorithm.finish.Goals as goal
 pub returns-clause-accepted : goal.returns-clause-accepted
 returns-clause-accepted c = on_ok_weaker c.append.result
     (λ appended. λ work text given was. at_end_finished work _ c.as_slice.result.now text was.at_end
-    (c.as_slice.ensures.value ∙ c.finish.ensures.code was.hash was.key work.fed was.holds ∙ ap (hmac was.hash was.key) (sym (append-nil work.fed)))
+    (c.as_slice.ensures.value ∙ c.finish.ensures.code was.hash was.key work.fed was.holds
+    ∙ ap (hmac was.hash was.key) (sym (append-nil work.fed)))
     (same_text _ _ _ text appended given))
     c.append.ensures.appended
 
