@@ -7,3 +7,4 @@ mod ScheduleFacts
 mod TableFacts
 mod Vectors
 pub mod Words
+pub mod Quarters

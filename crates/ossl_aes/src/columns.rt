@@ -1,9 +1,9 @@
-//! The state as four words, a column each, top row in the highest byte. A block goes in and out of memory in parts of 4, 4
+//! The bytes of a block, and the state as four words, a column each, top row in the highest byte. A block goes in and out of memory in parts of 4, 4
 //! and 8 bytes, everywhere alike: what is read in the parts in which it was written need not wait for the memory, and
 //! parts that are not all alike are not gathered in a vector register, from which an index is slow to get.
 
 ghost use Rattle.std.specs.Prelude.{◌≡◌, ◌+◌, ◌*◌, ◌^◌, ◌≤◌, [], ◌∷◌, ◌++◌, length, slice_index, bit_xor};
-ghost use Rattle.std.specs.Int.{w32, to_be_bytes};
+ghost use Rattle.std.specs.Int.{w32, w128, to_be_bytes};
 ghost use Rattle.ossl_aes.specs.Cipher.{add, word_at};
 ghost use Rattle.ossl_aes.specs.State.{state_of};
 
@@ -84,4 +84,27 @@ pub fn add(s: [u32; 4], k: [u32; 4]) -> [u32; 4]
     ensures { state_of result ≡ add (state_of s) (state_of k) }
 {
     [s[0] ^ k[0], s[1] ^ k[1], s[2] ^ k[2], s[3] ^ k[3]]
+}
+
+/// The sum of two blocks, byte by byte: their exclusive or.
+#[inline(always)]
+pub fn xor_blocks(a: [u8; 16], b: [u8; 16]) -> [u8; 16]
+    ensures { result ≡ add a b }
+{
+    store(add(load(&a), load(&b)))
+}
+
+/// The block that a number is, highest byte first.
+#[inline(always)]
+pub fn number_block(n: u128) -> [u8; 16]
+    ensures { result ≡ to_be_bytes w128 n }
+{
+    let word = 0x1_0000_0000;
+    let (high, low) = (n / 0x1_0000_0000_0000_0000, n % 0x1_0000_0000_0000_0000);
+    store([
+        (high / word) as u32,
+        (high % word) as u32,
+        (low / word) as u32,
+        (low % word) as u32,
+    ])
 }

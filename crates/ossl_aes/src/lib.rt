@@ -16,6 +16,7 @@ mod tables;
 mod tests;
 
 pub use aes::Aes;
-pub use block::{Block, xor_blocks};
+pub use block::Block;
+pub use columns::{number_block, xor_blocks};
 pub use inverse::there_and_back;
 pub use rounds::{dec_word, enc_word, sub, unsub};

@@ -1,9 +1,11 @@
 -- A message goes on from block to block: the laws by which it may be cut anywhere.
-use Rattle.std.proofs.Common.{◌≡◌, ℕ, zero, suc, ◌+◌, ◌-◌, ◌*◌, ◌/◌, ◌<◌, ◌≤◌, List, [], ◌∷◌, ◌++◌, length, take, drop, refl, sym, ap, ◌∙◌, arith, length-append, replicate, nat_eq, false}
+use Rattle.std.proofs.Common.{◌≡◌, ℕ, zero, suc, ◌+◌, ◌-◌, ◌*◌, ◌/◌, ◌<◌, ◌≤◌, List, [], ◌∷◌, ◌++◌, length, take, drop, refl, sym, ap, ◌∙◌, arith, length-append, append_assoc, replicate, nat_eq, false, inl, inr}
+use Rattle.std.proofs.lemmas.Bool.{cases_lt}
 use Rattle.std.proofs.lemmas.Bool.Decides.{nat_tests}
-use Rattle.std.proofs.lemmas.List.{take_at, drop_at, take_all, append-nil, length-take-le, length-drop, drop-drop}
+use Rattle.std.proofs.lemmas.List.{take_at, drop_at, take_all, take-append-le, drop-append-le, append-nil, length-take-le, length-drop, drop-drop}
 use Rattle.ossl_aes.specs.Cipher.{add}
 use Rattle.ossl_aes.proofs.Lists.{cut_at, no_elements}
+use Rattle.ossl_blocks.specs.Cut.{IsCut}
 use Rattle.ossl_cmac.specs.Cmac.{chained, mac_from, last_block, subkey_1, subkey_2}
 
 module _ (e : List ℕ → List ℕ) where
@@ -50,12 +52,35 @@ module _ (e : List ℕ → List ℕ) where
       let more : suc i ≡ i + 1 = omega arith in
       en ∙ ap e (ex ∙ (λ j. add (eb j) (ew j))) ∙ sym (chained_then i v bs) ∙ ap (λ (k : ℕ). chained e k v bs) more
 
-  -- whole blocks that are chained, where nothing is held
-  pub chained_held : (n : ℕ) (v held bs r next : List ℕ) (count : ℕ) → count ≡ 0 → length bs ≡ 16 * n → 0 < length r → next ≡ chained e n v bs
-      → mac_from e v (take count held ++ (bs ++ r)) ≡ mac_from e next (take count held ++ r)
-  chained_held n v held bs r next count ec len some en =
-      let none : take count held ≡ [] = ap (λ (k : ℕ). take k held) ec in
-      ap (λ (x : List ℕ). mac_from e v (x ++ (bs ++ r))) none ∙ mac_after n v bs r len some ∙ sym (λ i. mac_from e (en i) (none i ++ r))
+  -- a message that is cut: what is chained of it, and what is left
+  pub chained_fed : (v text bytes done held held_old r : List ℕ) → text ≡ held_old ++ bytes → IsCut 16 1 text done held
+      → mac_from e v (held_old ++ (bytes ++ r)) ≡ mac_from e (chained e (length done / 16) v done) (held ++ r)
+  unfolding chained
+  chained_fed v text bytes done held held_old r et cut =
+      let all = ap length cut.joined ∙ length-append done held in
+      let whole : length done ≡ 16 * (length done / 16) = omega (arith, cut.len) in
+      ap (mac_from e v) (sym (append_assoc held_old bytes r) ∙ ap (λ (x : List ℕ). x ++ r) (sym et ∙ cut.joined) ∙ append_assoc done held r)
+      ∙ elim (cases_lt 0 (length held)) [
+        | inl some ↦ mac_after (length done / 16) v done (held ++ r) whole (omega (arith, some, length-append held r))
+        | inr none ↦
+            let nothing : done ≡ [] = no_elements done (omega (arith, cut.len, all)) in
+            ap (λ (x : List ℕ). mac_from e v (x ++ (held ++ r))) nothing
+            ∙ sym (λ i. mac_from e (chained e (length (nothing i) / 16) v (nothing i)) (held ++ r))
+      ]
+
+  -- two runs of blocks are one
+  pub chained_twice : (n m k : ℕ) (v xs bs : List ℕ) → length xs ≡ 16 * n → k ≡ n + m → chained e m (chained e n v xs) bs ≡ chained e k v (xs ++ bs)
+  unfolding chained
+  chained_twice zero m k v xs bs len ek =
+      let none : xs ≡ [] = no_elements xs (omega arith) in
+      let same : m ≡ k = omega arith in
+      λ i. chained e (same i) v (sym none i ++ bs)
+  chained_twice (suc n) m zero v xs bs len ek = absurd (omega arith)
+  chained_twice (suc n) m (suc k) v xs bs len ek =
+      let first : take 16 (xs ++ bs) ≡ take 16 xs = take-append-le 16 xs bs (omega arith) in
+      let rest : drop 16 (xs ++ bs) ≡ drop 16 xs ++ bs = drop-append-le 16 xs bs (omega arith) in
+      chained_twice n m k (e (add (take 16 xs) v)) (drop 16 xs) bs (length-drop 16 xs ∙ omega arith) (omega arith)
+      ∙ sym (λ i. chained e k (e (add (first i) v)) (rest i))
 
   mac_last : (v b : List ℕ) → length b ≤ 16 → mac_from e v b ≡ e (add (last_block e b) v)
   unfolding chained mac_from
@@ -64,19 +89,18 @@ module _ (e : List ℕ → List ℕ) where
       λ i. e (add (last_block e (drop (16 * n i) b)) (chained e (n i) v b))
 
   -- the end, where a whole block is held
-  pub ends_whole : (v held k x y t : List ℕ) (n : ℕ) → n ≡ 16 → length held ≡ 16
-      → k ≡ subkey_1 e → x ≡ add held k → y ≡ add x v → t ≡ e y → t ≡ mac_from e v (take n held ++ [])
-  ends_whole v held k x y t n en len ek ex ey et =
-      let whole : take n held ++ [] ≡ held = append-nil (take n held) ∙ take_all n held (omega arith) in
+  pub ends_whole : (v held b k x y t : List ℕ) → length held ≡ 16 → b ≡ held
+      → k ≡ subkey_1 e → x ≡ add b k → y ≡ add x v → t ≡ e y → t ≡ mac_from e v (held ++ [])
+  ends_whole v held b k x y t len eb ek ex ey et =
       let full : last_block e held ≡ add held (subkey_1 e) = rw len refl in
-      et ∙ ap e (ey ∙ ap (λ (z : List ℕ). add z v) (ex ∙ ap (add held) ek ∙ sym full)) ∙ sym (ap (mac_from e v) whole ∙ mac_last v held (omega arith))
+      et ∙ ap e (ey ∙ ap (λ (z : List ℕ). add z v) (ex ∙ (λ i. add (eb i) (ek i)) ∙ sym full))
+      ∙ sym (ap (mac_from e v) (append-nil held) ∙ mac_last v held (omega arith))
 
   -- the end, where a short block is held or none
-  pub ends_short : (v held b k x y t : List ℕ) (n : ℕ) → n < 16 → length held ≡ 16
-      → b ≡ take n held ++ 0x80 ∷ replicate (15 - n) 0 → k ≡ subkey_2 e → x ≡ add b k → y ≡ add x v → t ≡ e y → t ≡ mac_from e v (take n held ++ [])
-  ends_short v held b k x y t n fits len eb ek ex ey et =
-      let l : length (take n held) ≡ n = length-take-le n held (omega arith) in
-      let z : nat_eq n 16 ≡ false = grind (arith, nat_tests) in
-      let short : last_block e (take n held) ≡ add b (subkey_2 e) = rw (l, z, eb) refl in
+  pub ends_short : (v held b k x y t : List ℕ) → length held < 16
+      → b ≡ held ++ 0x80 ∷ replicate (15 - length held) 0 → k ≡ subkey_2 e → x ≡ add b k → y ≡ add x v → t ≡ e y → t ≡ mac_from e v (held ++ [])
+  ends_short v held b k x y t fits eb ek ex ey et =
+      let z : nat_eq (length held) 16 ≡ false = grind (arith, nat_tests) in
+      let short : last_block e held ≡ add b (subkey_2 e) = rw (z, eb) refl in
       et ∙ ap e (ey ∙ ap (λ (z : List ℕ). add z v) (ex ∙ ap (add b) ek ∙ sym short))
-      ∙ sym (ap (mac_from e v) (append-nil (take n held)) ∙ mac_last v (take n held) (omega arith))
+      ∙ sym (ap (mac_from e v) (append-nil held) ∙ mac_last v held (omega arith))

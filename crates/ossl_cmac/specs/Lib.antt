@@ -1,2 +1,3 @@
 pub mod Cmac
 pub mod Run
+pub mod Laws

@@ -1,19 +1,24 @@
 -- What a contract sees of a digester: its hash, and the bytes that it was fed.
-use Rattle.std.specs.Prelude.{◌≡◌, ℕ, ◌%◌, ◌^◌, List, ◌++◌, length, take}
+use Rattle.std.specs.Prelude.{◌≡◌, ℕ, ◌/◌, ◌%◌, ◌^◌, List, ◌++◌, length}
+use Rattle.ossl_blocks.specs.Held.{held_of}
 use Rattle.ossl_digests.specs.declared.hash.Hash.{Hash}
 use Rattle.ossl_digests.specs.declared.hash.Hash.TheVariants as H
-use Rattle.ossl_digests.specs.declared.md4.Md4.{Md4}
+use Rattle.ossl_digests.specs.declared.state.Md4.{Md4}
 use Rattle.ossl_digests.specs.declared.digester.State.{State}
 use Rattle.ossl_digests.specs.declared.digester.State.TheVariants.{Sha1, Sha224, Sha256, Sha384, Sha512, Sha512t224, Sha512t256, Md5, Md4 as Md4State}
 use Rattle.ossl_digests.specs.declared.digester.Digester.{Digester}
 use Rattle.sha1.specs.Sha1 as K1
 use Rattle.sha2.specs.Hashers.{Holds224, Holds256, Holds384, Holds512, Holds512_224, Holds512_256}
 use Rattle.md5.specs.Md5 as K5
-use Rattle.ossl_digests.specs.Md4.{digest_from, initial_registers}
+use Rattle.ossl_digests.specs.Md4.{digest_from, initial_registers, registers_after}
+
+-- MD4's registers after whole blocks, by what they were before
+abbrev pub HasCompressed : List ℕ → List ℕ → List ℕ → Type 0
+HasCompressed registers bytes after = after ≡ registers_after registers (length bytes / 64) bytes
 
 -- what an MD4 state gives where p, which ends in the padding, is all that is yet to come
 abbrev pub digest_with : Md4 → List ℕ → List ℕ
-digest_with s p = digest_from s.registers (take (s.total % 64) s.held ++ p)
+digest_with s p = digest_from s.registers.0 (held_of s.buffer ++ p)
 
 -- the MD4 state s was fed the message m: with whatever comes yet it gives what MD4 gives for m and
 -- that, and it has counted the bytes of m modulo 2 ^ 64

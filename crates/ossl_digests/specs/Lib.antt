@@ -2,3 +2,4 @@
 pub mod Digest
 pub mod Holds
 pub mod Md4
+pub mod Laws

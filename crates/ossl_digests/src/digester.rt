@@ -3,7 +3,7 @@ ghost use Rattle.ossl_digests.specs.declared.hash.Hash.{Hash as TheHash};
 ghost use Rattle.ossl_digests.specs.Digest.{digest, output_len};
 
 use crate::hash::Hash;
-use crate::md4::Md4;
+use crate::state::Md4;
 use crate::value::HashValue;
 use md5::{Digest as _, Md5};
 use sha1::Sha1;

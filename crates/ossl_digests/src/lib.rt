@@ -7,6 +7,7 @@ mod digester;
 mod hash;
 mod md4;
 mod rounds;
+mod state;
 #[cfg(test)]
 mod tests;
 mod value;

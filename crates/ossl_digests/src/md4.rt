@@ -1,7 +1,11 @@
-ghost use Rattle.std.specs.Prelude.{◌≡◌, ℕ, ◌+◌, ◌-◌, ◌%◌, ◌^◌, ◌<◌, List, [], ◌∷◌, ◌++◌, length, replicate};
-ghost use Rattle.ossl_digests.specs.Md4.{digest_from, initial_registers, padding, output};
+//! MD4 (RFC 1320).
+
+ghost use Rattle.std.specs.Prelude.{◌≡◌, ℕ, ◌+◌, ◌-◌, ◌*◌, ◌/◌, ◌%◌, ◌^◌, ◌<◌, List, ◌∷◌, ◌++◌, length, replicate};
+ghost use Rattle.ossl_digests.specs.Md4.{digest_from, initial_registers, registers_after, padding, output};
 
 use crate::rounds::compress;
+use crate::state::{Md4, Registers};
+use ossl_blocks::{BlockTaker, Buffer};
 
 const BLOCK_LEN: usize = 64;
 
@@ -20,14 +24,32 @@ fn padding_front(used: usize) -> &'static [u8]
     &PADDING[..(119 - used) % 64 + 1]
 }
 
-/// MD4 of bytes that come in pieces.
-#[derive(Drop, Clone, Copy)]
-pub struct Md4 {
-    registers: [u32; 4],
-    // The bytes since the last whole block, in front.
-    held: [u8; 64],
-    // The count of all bytes, modulo 2^64.
-    total: u64,
+// Takes whole blocks into the registers.
+fn compress_all(registers: &mut [u32; 4], bytes: &[u8])
+    requires { length bytes.now % 64 ≡ 0 }
+    ensures { registers.new ≡ registers_after registers.old (length bytes.now / 64) bytes.now }
+{
+    'block: for i in 0..bytes.len() / BLOCK_LEN {
+        compress(registers, &bytes[BLOCK_LEN * i..BLOCK_LEN * i + BLOCK_LEN]);
+    }
+}
+
+impl BlockTaker<64> for Registers {
+    ghost use Rattle.ossl_digests.specs.Holds.{HasCompressed};
+    ghost use Rattle.ossl_digests.specs.Laws.{compressed_nothing};
+
+    type Out = ();
+
+    ghost has_room = { λ _ _. Unit {0} };
+
+    ghost taken = { λ registers _ bytes after _. HasCompressed registers.0 bytes after.0 };
+
+    fn take(&mut self, first: &[u8], rest: &[u8], _out: &mut ()) {
+        compress_all(&mut self.0, first);
+        compress_all(&mut self.0, rest);
+    }
+
+    ghost nothing = { λ registers _. compressed_nothing registers.0 };
 }
 
 impl Md4 {
@@ -39,44 +61,10 @@ impl Md4 {
         ensures counted { result.total ≡ 0 }
     {
         Md4 {
-            registers: [0x6745_2301, 0xEFCD_AB89, 0x98BA_DCFE, 0x1032_5476],
-            held: [0; 64],
+            registers: Registers([0x6745_2301, 0xEFCD_AB89, 0x98BA_DCFE, 0x1032_5476]),
+            buffer: Buffer::new(),
             total: 0,
         }
-    }
-
-    // Holds bytes back that do not fill the block.
-    fn hold(&mut self, bytes: &[u8])
-        requires short { self.old.total % 64 + length bytes.now < 64 }
-        ensures gives { (p : List ℕ) → digest_with self.old (bytes.now ++ p) ≡ digest_with self.new p }
-        ensures counted { self.new.total ≡ (self.old.total + length bytes.now) % 2 ^ 64 }
-    {
-        let used = (self.total % 64) as usize;
-        self.held[used..used + bytes.len()].copy_from_slice(bytes);
-        self.total = self.total.wrapping_add(bytes.len() as u64);
-    }
-
-    // Takes the bytes that fill the held block.
-    fn fill(&mut self, bytes: &[u8])
-        requires full { self.old.total % 64 + length bytes.now ≡ 64 }
-        ensures gives { (p : List ℕ) → digest_with self.old (bytes.now ++ p) ≡ digest_with self.new p }
-        ensures counted { self.new.total ≡ (self.old.total + length bytes.now) % 2 ^ 64 }
-    {
-        let used = (self.total % 64) as usize;
-        self.held[used..].copy_from_slice(bytes);
-        compress(&mut self.registers, &self.held);
-        self.total = self.total.wrapping_add(bytes.len() as u64);
-    }
-
-    // Takes a whole block, where none is begun.
-    fn take_block(&mut self, block: &[u8])
-        requires whole { length block.now ≡ 64 }
-        requires none { self.old.total % 64 ≡ 0 }
-        ensures gives { (p : List ℕ) → digest_with self.old (block.now ++ p) ≡ digest_with self.new p }
-        ensures counted { self.new.total ≡ (self.old.total + 64) % 2 ^ 64 }
-    {
-        compress(&mut self.registers, block);
-        self.total = self.total.wrapping_add(64);
     }
 
     /// Takes more bytes in.
@@ -84,29 +72,19 @@ impl Md4 {
         ensures gives { (p : List ℕ) → digest_with self.old (bytes.now ++ p) ≡ digest_with self.new p }
         ensures counted { self.new.total ≡ (self.old.total + length bytes.now) % 2 ^ 64 }
     {
-        let room = BLOCK_LEN - (self.total % 64) as usize;
-        if bytes.len() < room {
-            self.hold(bytes);
-            return;
-        }
-        let (first, rest) = bytes.split_at(room);
-        self.fill(first);
-        let count = rest.len() / BLOCK_LEN;
-        'whole: for i in 0..count {
-            self.take_block(&rest[BLOCK_LEN * i..BLOCK_LEN * i + BLOCK_LEN]);
-        }
-        self.hold(&rest[BLOCK_LEN * count..]);
+        self.buffer.feed(bytes, &mut self.registers, &mut ());
+        self.total = self.total.wrapping_add(bytes.len() as u64);
     }
 
     /// The digest of all bytes taken in.
     pub fn finish(mut self) -> [u8; 16]
         ensures { result ≡ digest_with self (padding self.total) }
     {
-        let used = (self.total % 64) as usize;
         let bits = self.total.wrapping_mul(8).to_le_bytes();
+        let used = self.buffer.len();
         self.feed(padding_front(used));
         self.feed(&bits);
-        output(&self.registers)
+        output(&self.registers.0)
     }
 }
 

@@ -5,6 +5,7 @@ use Rattle.std.proofs.lemmas.Bool.{cases_lt}
 use Rattle.std.proofs.lemmas.Bool.Decides.{nat_tests}
 use Rattle.ossl_aes.specs.Cipher.{add}
 use Rattle.ossl_aes.proofs.Lists.{cut_at, no_elements}
+use Rattle.ossl_blocks.specs.Cut.{IsCut}
 use Rattle.ossl_modes.specs.declared.kinds.ModeKind.TheVariants.{Ecb, Cbc, Cfb, Ofb, Ctr}
 use Rattle.ossl_modes.specs.declared.kinds.ModeKind.{ModeKind}
 use Rattle.ossl_modes.specs.declared.kinds.FinishRefused.{FinishRefused}
@@ -118,71 +119,53 @@ module _ (e d : List ℕ → List ℕ) (kind : ModeKind) (decrypt : Bool) where
       ∙ ap (λ (x : List ℕ). block_out e d kind decrypt v b ++ x) (whole_after n (block_next e kind decrypt v b) t r lt)
       ∙ sym (append_assoc (block_out e d kind decrypt v b) (blocks e d kind decrypt n (block_next e kind decrypt v b) t) _)
 
-  -- the block after n blocks
-  pub blocks_then : (n : ℕ) (v bs : List ℕ)
-      → blocks e d kind decrypt (suc n) v bs ≡ blocks e d kind decrypt n v bs ++ block_out e d kind decrypt (value_after e d kind decrypt n v bs) (take 16 (drop (16 * n) bs))
+  -- a text cut into whole blocks and what is held after them, with more bytes after it
+  cut_done : (text done held : List ℕ) → IsCut 16 1 text done held → (length done ≡ 0) ⊎ (0 < length held)
+  cut_done text done held cut =
+      let all = ap length cut.joined ∙ length-append done held in
+      elim (cases_lt 0 (length held)) [
+        | inl some ↦ inr some
+        | inr none ↦ inl (omega (arith, cut.len, all))
+      ]
+
+  outcome_cut : (pad : Bool) (v text done held r : List ℕ) → IsCut 16 1 text done held
+      → outcome e d kind decrypt pad v (text ++ r)
+      ≡ before (blocks e d kind decrypt (length done / 16) v done) (outcome e d kind decrypt pad (value_after e d kind decrypt (length done / 16) v done) (held ++ r))
   unfolding blocks value_after
-  blocks_then zero v bs = append-nil (block_out e d kind decrypt v (take 16 bs))
-  blocks_then (suc n) v bs =
-      let w : List ℕ = block_next e kind decrypt v (take 16 bs) in
-      let at : drop (16 * n) (drop 16 bs) ≡ drop (16 * suc n) bs = drop-drop (16 * n) 16 bs ∙ ap (λ (k : ℕ). drop k bs) (omega arith) in
-      ap (λ (x : List ℕ). block_out e d kind decrypt v (take 16 bs) ++ x) (blocks_then n w (drop 16 bs))
-      ∙ sym (append_assoc (block_out e d kind decrypt v (take 16 bs)) (blocks e d kind decrypt n w (drop 16 bs)) _)
-      ∙ (λ i. (block_out e d kind decrypt v (take 16 bs) ++ blocks e d kind decrypt n w (drop 16 bs)) ++ block_out e d kind decrypt (value_after e d kind decrypt n w (drop 16 bs)) (take 16 (at i)))
+  outcome_cut pad v text done held r cut =
+      let joined = ap (λ (x : List ℕ). x ++ r) cut.joined ∙ append_assoc done held r in
+      let whole : length done ≡ 16 * (length done / 16) = omega (arith, cut.len) in
+      elim (cut_done text done held cut) [
+        | inl none ↦
+            let nothing : done ≡ [] = no_elements done none in
+            ap (outcome e d kind decrypt pad v) joined ∙ ap (λ (x : List ℕ). outcome e d kind decrypt pad v (x ++ (held ++ r))) nothing
+            ∙ sym (before-nil _)
+            ∙ sym (λ i. before (blocks e d kind decrypt (length (nothing i) / 16) v (nothing i)) (outcome e d kind decrypt pad (value_after e d kind decrypt (length (nothing i) / 16) v (nothing i)) (held ++ r)))
+        | inr some ↦
+            ap (outcome e d kind decrypt pad v) joined
+            ∙ outcome_after (length done / 16) pad v done (held ++ r) whole (omega (arith, some, length-append held r))
+      ]
 
-  -- what stands for v after it
-  pub value_then : (n : ℕ) (v bs : List ℕ)
-      → value_after e d kind decrypt (suc n) v bs ≡ block_next e kind decrypt (value_after e d kind decrypt n v bs) (take 16 (drop (16 * n) bs))
-  unfolding value_after
-  value_then zero v bs = refl
-  value_then (suc n) v bs =
-      let w : List ℕ = block_next e kind decrypt v (take 16 bs) in
-      let at : drop (16 * n) (drop 16 bs) ≡ drop (16 * suc n) bs = drop-drop (16 * n) 16 bs ∙ ap (λ (k : ℕ). drop k bs) (omega arith) in
-      value_then n w (drop 16 bs) ∙ (λ i. block_next e kind decrypt (value_after e d kind decrypt n w (drop 16 bs)) (take 16 (at i)))
+  -- what is given of a text that is cut, and what is left of it
+  pub fed_text : (pad : Bool) (v text bytes done held r next old new held_old : List ℕ) → text ≡ held_old ++ bytes → IsCut 16 1 text done held
+      → next ≡ value_after e d kind decrypt (length done / 16) v done → new ≡ old ++ blocks e d kind decrypt (length done / 16) v done
+      → before old (outcome e d kind decrypt pad v (held_old ++ (bytes ++ r))) ≡ before new (outcome e d kind decrypt pad next (held ++ r))
+  fed_text pad v text bytes done held r next old new held_old et cut enext enew =
+      ap (λ (x : List ℕ). before old (outcome e d kind decrypt pad v x)) (sym (append_assoc held_old bytes r) ∙ ap (λ (x : List ℕ). x ++ r) (sym et))
+      ∙ ap (before old) (outcome_cut pad v text done held r cut)
+      ∙ before-append old (blocks e d kind decrypt (length done / 16) v done) _
+      ∙ sym (λ i. before (enew i) (outcome e d kind decrypt pad (enext i) (held ++ r)))
 
-  -- a loop over the blocks: at its start, and a turn of it
-  pub given_none : (v bs old : List ℕ) → old ≡ old ++ blocks e d kind decrypt 0 v bs
-  unfolding blocks
-  given_none v bs old = sym (append-nil old)
-
-  pub value_none : (v bs : List ℕ) → v ≡ value_after e d kind decrypt 0 v bs
-  unfolding value_after
-  value_none v bs = refl
-
-  pub given_then : (i : ℕ) (v bs old now new t w b : List ℕ) → now ≡ old ++ blocks e d kind decrypt i v bs → w ≡ value_after e d kind decrypt i v bs
-      → b ≡ take 16 (drop (16 * i) bs) → t ≡ block_out e d kind decrypt w b → new ≡ now ++ t → new ≡ old ++ blocks e d kind decrypt (i + 1) v bs
-  given_then i v bs old now new t w b enow ew eb et enew =
-      let next : suc i ≡ i + 1 = omega arith in
-      let last = et ∙ (λ j. block_out e d kind decrypt (ew j) (eb j)) in
-      enew ∙ (λ j. enow j ++ last j) ∙ append_assoc old (blocks e d kind decrypt i v bs) _
-      ∙ ap (λ (x : List ℕ). old ++ x) (sym (blocks_then i v bs) ∙ ap (λ (k : ℕ). blocks e d kind decrypt k v bs) next)
-
-  pub value_given : (i : ℕ) (v bs w b next : List ℕ) → w ≡ value_after e d kind decrypt i v bs → b ≡ take 16 (drop (16 * i) bs)
-      → next ≡ block_next e kind decrypt w b → next ≡ value_after e d kind decrypt (i + 1) v bs
-  value_given i v bs w b next ew eb en =
-      let more : suc i ≡ i + 1 = omega arith in
-      en ∙ (λ j. block_next e kind decrypt (ew j) (eb j)) ∙ sym (value_then i v bs) ∙ ap (λ (k : ℕ). value_after e d kind decrypt k v bs) more
-
-  -- whole blocks that are given, where nothing is held
-  pub given : (n : ℕ) (pad : Bool) (v held bs r next old new : List ℕ) (count : ℕ) → count ≡ 0 → length bs ≡ 16 * n → 0 < length r
-      → next ≡ value_after e d kind decrypt n v bs → new ≡ old ++ blocks e d kind decrypt n v bs
-      → before old (outcome e d kind decrypt pad v (take count held ++ (bs ++ r))) ≡ before new (outcome e d kind decrypt pad next (take count held ++ r))
-  given n pad v held bs r next old new count ec len some enext enew =
-      let none : take count held ≡ [] = ap (λ (k : ℕ). take k held) ec in
-      ap (λ (x : List ℕ). before old (outcome e d kind decrypt pad v (x ++ (bs ++ r)))) none
-      ∙ ap (before old) (outcome_after n pad v bs r len some)
-      ∙ before-append old (blocks e d kind decrypt n v bs) _
-      ∙ sym (λ i. before (enew i) (outcome e d kind decrypt pad (enext i) (none i ++ r)))
-
-  pub given_whole : (n : ℕ) (v held bs r next old new : List ℕ) (count : ℕ) → count ≡ 0 → length bs ≡ 16 * n
-      → next ≡ value_after e d kind decrypt n v bs → new ≡ old ++ blocks e d kind decrypt n v bs
-      → old ++ whole_blocks e d kind decrypt v (take count held ++ (bs ++ r)) ≡ new ++ whole_blocks e d kind decrypt next (take count held ++ r)
-  given_whole n v held bs r next old new count ec len enext enew =
-      let none : take count held ≡ [] = ap (λ (k : ℕ). take k held) ec in
-      ap (λ (x : List ℕ). old ++ whole_blocks e d kind decrypt v (x ++ (bs ++ r))) none
-      ∙ ap (λ (x : List ℕ). old ++ x) (whole_after n v bs r len)
-      ∙ sym (append_assoc old (blocks e d kind decrypt n v bs) _)
-      ∙ sym (λ i. enew i ++ whole_blocks e d kind decrypt (enext i) (none i ++ r))
+  pub fed_whole : (v text bytes done held r next old new held_old : List ℕ) → text ≡ held_old ++ bytes → IsCut 16 1 text done held
+      → next ≡ value_after e d kind decrypt (length done / 16) v done → new ≡ old ++ blocks e d kind decrypt (length done / 16) v done
+      → old ++ whole_blocks e d kind decrypt v (held_old ++ (bytes ++ r)) ≡ new ++ whole_blocks e d kind decrypt next (held ++ r)
+  fed_whole v text bytes done held r next old new held_old et cut enext enew =
+      let whole : length done ≡ 16 * (length done / 16) = omega (arith, cut.len) in
+      ap (λ (x : List ℕ). old ++ whole_blocks e d kind decrypt v x)
+      (sym (append_assoc held_old bytes r) ∙ ap (λ (x : List ℕ). x ++ r) (sym et ∙ cut.joined) ∙ append_assoc done held r)
+      ∙ ap (λ (x : List ℕ). old ++ x) (whole_after (length done / 16) v done (held ++ r) whole)
+      ∙ sym (append_assoc old (blocks e d kind decrypt (length done / 16) v done) _)
+      ∙ sym (λ i. enew i ++ whole_blocks e d kind decrypt (enext i) (held ++ r))
 
   short_out : (n : ℕ) (v b : List ℕ) → is_stream kind ≡ true → take n (block_out e d kind decrypt v b) ≡ block_out e d kind decrypt v (take n b)
   short_out n v b s = short kind decrypt s where
@@ -217,52 +200,48 @@ module _ (e d : List ℕ → List ℕ) (kind : ModeKind) (decrypt : Bool) where
             rw z refl
       ]
 
-pub padded_full : (e d : List ℕ → List ℕ) (kind : ModeKind) (decrypt : Bool) (v b t1 v2 t2 : List ℕ) (n : ℕ) → n ≡ 16 → length b ≡ 16
-    → t1 ≡ block_out e d kind decrypt v b → v2 ≡ block_next e kind decrypt v b → t2 ≡ block_out e d kind decrypt v2 (replicate 16 16)
-    → t1 ++ t2 ≡ equations e d kind decrypt v (padded (take n b))
-padded_full e d kind decrypt v b t1 v2 t2 n en len h1 h2 h3 =
-    let whole : take n b ≡ b = take_all n b (omega arith) in
-    let p : padded (take n b) ≡ b ++ replicate 16 16 = rw (whole, len) refl in
-    let one = one_block e d kind decrypt v2 (replicate 16 16) (lit< tt) (lit≤ tt) in
-    (λ i. h1 i ++ (h3 ∙ sym one) i)
-    ∙ ap (λ (x : List ℕ). block_out e d kind decrypt v b ++ equations e d kind decrypt x (replicate 16 16)) h2
-    ∙ sym (ap (equations e d kind decrypt v) p ∙ equations_more e d kind decrypt v b (replicate 16 16) len)
+-- a whole block and its padding are two blocks
+pub padded_full : (e d : List ℕ → List ℕ) (kind : ModeKind) (decrypt : Bool) (v held b : List ℕ) → length held ≡ 16 → b ≡ held
+    → blocks e d kind decrypt (length (b ++ replicate 16 16) / 16) v (b ++ replicate 16 16) ≡ equations e d kind decrypt v (padded held)
+padded_full e d kind decrypt v held b len eb =
+    let p : padded held ≡ b ++ replicate 16 16 = rw (len, eb) refl in
+    let sixteen : length (replicate {A = ℕ} 16 16) ≡ 16 = refl in
+    let two : length (b ++ replicate 16 16) / 16 ≡ (length (padded held) + 15) / 16 =
+    omega (arith, ap length p, length-append b (replicate 16 16), sixteen, len, ap length eb) in
+    λ i. blocks e d kind decrypt (two i) v (sym p i)
 
-pub padded_short : (e d : List ℕ → List ℕ) (kind : ModeKind) (decrypt : Bool) (v b last t : List ℕ) (n : ℕ) → n < 16 → length b ≡ 16
-    → last ≡ take n b ++ replicate (16 - n) (16 - n) → t ≡ block_out e d kind decrypt v last
-    → t ≡ equations e d kind decrypt v (padded (take n b))
-padded_short e d kind decrypt v b last t n fits len el et =
-    let l : length (take n b) ≡ n = length-take-le n b (omega arith) in
-    let m : n % 16 ≡ n = omega arith in
-    let p : padded (take n b) ≡ last = rw (l, m, el) refl in
-    let long : length last ≡ 16 = ap length el ∙ length-append (take n b) (replicate (16 - n) (16 - n)) ∙ rw (l, length-replicate) (omega arith) in
+pub padded_short : (e d : List ℕ → List ℕ) (kind : ModeKind) (decrypt : Bool) (v held last t : List ℕ) → length held < 16
+    → last ≡ held ++ replicate (16 - length held) (16 - length held) → t ≡ block_out e d kind decrypt v last
+    → t ≡ equations e d kind decrypt v (padded held)
+padded_short e d kind decrypt v held last t fits el et =
+    let m : length held % 16 ≡ length held = omega arith in
+    let p : padded held ≡ last = rw (m, el) refl in
+    let pads = length-replicate {A = ℕ} (16 - length held) (16 - length held) in
+    let long : length last ≡ 16 = omega (arith, ap length el, length-append held (replicate (16 - length held) (16 - length held)), pads) in
     et ∙ sym (ap (equations e d kind decrypt v) p ∙ one_block e d kind decrypt v last (omega arith) (omega arith))
 
 pub not_stream : (k : ModeKind) → (k ≡ Ecb) ⊎ (k ≡ Cbc) → is_stream k ≡ false
 not_stream k h = elim h [ inl a ↦ ap is_stream a | inr a ↦ ap is_stream a ]
 
-pub checked_end : (e d : List ℕ → List ℕ) (kind : ModeKind) (decrypt pad : Bool) (v b : List ℕ) (n : ℕ)
-    → is_stream kind ≡ false → pad ≡ true → decrypt ≡ true → n ≡ 16 → length b ≡ 16
-    → outcome e d kind decrypt pad v (take n b ++ []) ≡ unpadded (block_out e d kind decrypt v b)
+pub checked_end : (e d : List ℕ → List ℕ) (kind : ModeKind) (decrypt pad : Bool) (v b : List ℕ)
+    → is_stream kind ≡ false → pad ≡ true → decrypt ≡ true → length b ≡ 16
+    → outcome e d kind decrypt pad v (b ++ []) ≡ unpadded (block_out e d kind decrypt v b)
 unfolding checked
-checked_end e d kind decrypt pad v b n s p q en len =
-    let whole : take n b ++ [] ≡ b = append-nil (take n b) ∙ take_all n b (omega arith) in
-    ap (outcome e d kind decrypt pad v) whole ∙ rw (s, p, q, len) refl
+checked_end e d kind decrypt pad v b s p q len = ap (outcome e d kind decrypt pad v) (append-nil b) ∙ rw (s, p, q, len) refl
 
-pub wrong_end : (e d : List ℕ → List ℕ) (kind : ModeKind) (decrypt pad : Bool) (v b : List ℕ) (n : ℕ)
-    → is_stream kind ≡ false → pad ≡ true → decrypt ≡ true → n ≤ 16 → n ≢ 16 → length b ≡ 16
-    → outcome e d kind decrypt pad v (take n b ++ []) ≡ Err (WrongFinalBlock n)
+pub wrong_end : (e d : List ℕ → List ℕ) (kind : ModeKind) (decrypt pad : Bool) (v b : List ℕ)
+    → is_stream kind ≡ false → pad ≡ true → decrypt ≡ true → length b ≤ 16 → length b ≢ 16
+    → outcome e d kind decrypt pad v (b ++ []) ≡ Err (WrongFinalBlock (length b))
 unfolding checked
-wrong_end e d kind decrypt pad v b n s p q fits other len =
-    let l : length (take n b ++ []) ≡ n = ap length (append-nil (take n b)) ∙ length-take-le n b (omega arith) in
-    elim (cases_lt 0 n) [
+wrong_end e d kind decrypt pad v b s p q fits other =
+    ap (outcome e d kind decrypt pad v) (append-nil b) ∙ elim (cases_lt 0 (length b)) [
       | inl some ↦
-          let m : n % 16 ≡ n = omega arith in
-          let z : nat_eq n 0 ≡ false = grind (arith, nat_tests) in
-          rw (s, p, q, l, m, z) refl
+          let m : length b % 16 ≡ length b = omega arith in
+          let z : nat_eq (length b) 0 ≡ false = grind (arith, nat_tests) in
+          rw (s, p, q, m, z) refl
       | inr none ↦
-          let z : n ≡ 0 = omega arith in
-          rw (s, p, q, l, z) refl
+          let z : length b ≡ 0 = omega arith in
+          rw (s, p, q, z) refl
     ]
 
 -- a refused outcome, whatever text is put before it

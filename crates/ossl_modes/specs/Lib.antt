@@ -1,3 +1,5 @@
 pub mod Modes
 pub mod Return
+pub mod Steps
 pub mod Run
+pub mod Laws

@@ -1,15 +1,16 @@
 //! A text through a mode: its start, its pieces, its end.
 
-ghost use Rattle.std.specs.Prelude.{◌≡◌, ℕ, ◌+◌, ◌%◌, ◌≤◌, ◌<◌, List, [], ◌∷◌, ◌++◌, length, take, map, true, ◌⊎◌, OnOk, OnErr, vec_len, vec_capacity};
+ghost use Rattle.std.specs.Prelude.{◌≡◌, ℕ, ◌%◌, ◌<◌, List, [], ◌++◌, length, map, true, ◌⊎◌, OnOk, OnErr};
 ghost use Rattle.std.specs.List.{concat};
+ghost use Rattle.ossl_blocks.specs.Held.{held_of};
 ghost use Rattle.ossl_modes.specs.Modes.{block_out, is_stream, before, equations, whole_blocks, padded, unpadded, outcome};
 ghost use Rattle.ossl_modes.specs.Run.{outcome_of, whole_blocks_of, Finishes, RunsTo};
 
-use crate::blocks::{through, through_all};
 use crate::kinds::{FinishRefused, ModeKind};
 use crate::padding::{padded_block, unpadded_len};
-use crate::state::Mode;
+use crate::state::{BlockMode, Mode};
 use ossl_aes::Block;
+use ossl_blocks::{BlockTaker, Buffer};
 use std::alloc::AllocError;
 
 fn append(out: &mut Vec<u8>, bytes: &[u8]) -> Result<(), FinishRefused>
@@ -21,16 +22,6 @@ fn append(out: &mut Vec<u8>, bytes: &[u8]) -> Result<(), FinishRefused>
     }
 }
 
-fn joined(a: [u8; 16], b: [u8; 16]) -> [u8; 32]
-    ensures { result ≡ a ++ b }
-{
-    [
-        a[0], a[1], a[2], a[3], a[4], a[5], a[6], a[7], a[8], a[9], a[10], a[11], a[12], a[13],
-        a[14], a[15], b[0], b[1], b[2], b[3], b[4], b[5], b[6], b[7], b[8], b[9], b[10], b[11],
-        b[12], b[13], b[14], b[15],
-    ]
-}
-
 impl<C: Block> Mode<C> {
     /// The start of a text: `iv` is the initial value, which ECB does not use; `decrypt` is the direction; `pad` wants
     /// padding, which only ECB and CBC have.
@@ -39,73 +30,15 @@ impl<C: Block> Mode<C> {
         ensures unchecked { (bytes : List ℕ) → whole_blocks_of result bytes ≡ whole_blocks (C.enc cipher) (C.dec cipher) kind decrypt iv bytes }
     {
         Mode {
-            cipher,
-            kind,
-            decrypt,
+            mode: BlockMode {
+                cipher,
+                kind,
+                decrypt,
+                value: iv,
+            },
             pad,
-            value: iv,
-            held: [0; 16],
-            count: 0,
+            buffer: Buffer::new(),
         }
-    }
-
-    fn keep(&mut self, byte: u8)
-        requires { self.old.count < 16 }
-        ensures count { self.new.count ≡ self.old.count + 1 }
-        ensures text { (rest : List ℕ) → outcome_of self.old (byte ∷ rest) ≡ outcome_of self.new rest }
-        ensures unchecked { (rest : List ℕ) → whole_blocks_of self.old (byte ∷ rest) ≡ whole_blocks_of self.new rest }
-    {
-        self.held[self.count] = byte;
-        self.count += 1;
-    }
-
-    // Holds the bytes back, where there is room for them.
-    fn hold(&mut self, bytes: &[u8])
-        requires room { self.old.count + length bytes.now ≤ 16 }
-        ensures count { self.new.count ≡ self.old.count + length bytes.now }
-        ensures text { (rest : List ℕ) → outcome_of self.old (bytes.now ++ rest) ≡ outcome_of self.new rest }
-        ensures unchecked { (rest : List ℕ) → whole_blocks_of self.old (bytes.now ++ rest) ≡ whole_blocks_of self.new rest }
-    {
-        for &byte in bytes {
-            self.keep(byte);
-        }
-    }
-
-    // Gives the whole blocks, where nothing is held and more bytes come.
-    fn give(&mut self, bytes: &[u8], out: &mut Vec<u8>)
-        requires empty { self.old.count ≡ 0 }
-        requires whole { length bytes.now % 16 ≡ 0 }
-        requires room { vec_len out.old + length bytes.now ≤ vec_capacity out.old }
-        ensures empty { self.new.count ≡ 0 }
-        ensures len { vec_len out.new ≡ vec_len out.old + length bytes.now }
-        ensures capacity { vec_capacity out.old ≤ vec_capacity out.new }
-        ensures appends { (given : List ℕ) × (out.new.items ≡ out.old.items ++ given) }
-        ensures text { (rest : List ℕ) → 0 < length rest → before out.old.items (outcome_of self.old (bytes.now ++ rest)) ≡ before out.new.items (outcome_of self.new rest) }
-        ensures unchecked { (rest : List ℕ) → out.old.items ++ whole_blocks_of self.old (bytes.now ++ rest) ≡ out.new.items ++ whole_blocks_of self.new rest }
-    {
-        let start = out.len();
-        match out.extend_from_slice(bytes) {
-            Ok(()) => {}
-            Err(_) => unreachable!(),
-        }
-        let room = &mut out.as_mut_slice()[start..];
-        through_all(&self.cipher, self.kind, self.decrypt, &mut self.value, room);
-    }
-
-    // Gives the held block, where it is whole and more bytes come.
-    fn give_held(&mut self, out: &mut Vec<u8>)
-        requires full { self.old.count ≡ 16 }
-        requires room { vec_len out.old + 16 ≤ vec_capacity out.old }
-        ensures empty { self.new.count ≡ 0 }
-        ensures len { vec_len out.new ≡ vec_len out.old + 16 }
-        ensures capacity { vec_capacity out.old ≤ vec_capacity out.new }
-        ensures appends { (given : List ℕ) × (out.new.items ≡ out.old.items ++ given) }
-        ensures text { (rest : List ℕ) → 0 < length rest → before out.old.items (outcome_of self.old rest) ≡ before out.new.items (outcome_of self.new rest) }
-        ensures unchecked { (rest : List ℕ) → out.old.items ++ whole_blocks_of self.old rest ≡ out.new.items ++ whole_blocks_of self.new rest }
-    {
-        let held = self.held;
-        self.count = 0;
-        self.give(&held, out);
     }
 
     /// Takes the next bytes of the text in, and appends the blocks that are known not to be the last.
@@ -119,54 +52,48 @@ impl<C: Block> Mode<C> {
         ensures unchecked { OnOk result ((rest : List ℕ) → out.old.items ++ whole_blocks_of self.old (bytes.now ++ rest) ≡ out.new.items ++ whole_blocks_of self.new rest) }
         ensures err { OnErr result ((self.new ≡ self.old) × (out.new.items ≡ out.old.items)) }
     {
-        out.reserve(self.count + bytes.len())?;
-        let room = 16 - self.count;
-        if bytes.len() <= room {
-            self.hold(bytes);
-            return Ok(());
-        }
-        self.hold(&bytes[..room]);
-        self.give_held(out);
-        let rest = &bytes[room..];
-        let whole = (rest.len() - 1) / 16 * 16;
-        self.give(&rest[..whole], out);
-        self.hold(&rest[whole..]);
+        out.reserve(self.buffer.whole_len(bytes.len()))?;
+        self.buffer.feed(bytes, &mut self.mode, out);
         Ok(())
     }
 
     // What is held, where its length fits.
     fn finish_plain(&self, out: &mut Vec<u8>) -> Result<(), FinishRefused>
-        requires { (is_stream self.now.kind ≡ true) ⊎ (self.now.count % 16 ≡ 0) }
-        ensures { Finishes out.old.items out.new.items result (Ok (equations (C.enc self.now.cipher) (C.dec self.now.cipher) self.now.kind self.now.decrypt self.now.value (take self.now.count self.now.held))) }
+        requires { (is_stream self.now.mode.kind ≡ true) ⊎ (length (held_of self.now.buffer) % 16 ≡ 0) }
+        ensures { Finishes out.old.items out.new.items result (Ok (equations (C.enc self.now.mode.cipher) (C.dec self.now.mode.cipher) self.now.mode.kind self.now.mode.decrypt self.now.mode.value (held_of self.now.buffer))) }
     {
-        let mut value = self.value;
-        let text = through(&self.cipher, self.kind, self.decrypt, &mut value, self.held);
-        append(out, &text[..self.count])
+        let text = self.mode.through(*self.buffer.block());
+        append(out, &text[..self.buffer.len()])
     }
 
-    // What is held, with its padding.
-    fn finish_padded(&self, out: &mut Vec<u8>) -> Result<(), FinishRefused>
-        ensures { Finishes out.old.items out.new.items result (Ok (equations (C.enc self.now.cipher) (C.dec self.now.cipher) self.now.kind self.now.decrypt self.now.value (padded (take self.now.count self.now.held)))) }
+    // What is held, a whole block, and a block of padding.
+    fn finish_full(&mut self, out: &mut Vec<u8>) -> Result<(), FinishRefused>
+        requires { length (held_of self.old.buffer) ≡ 16 }
+        ensures { Finishes out.old.items out.new.items result (Ok (equations (C.enc self.old.mode.cipher) (C.dec self.old.mode.cipher) self.old.mode.kind self.old.mode.decrypt self.old.mode.value (padded (held_of self.old.buffer)))) }
     {
-        let mut value = self.value;
-        if self.count == 16 {
-            let first = through(&self.cipher, self.kind, self.decrypt, &mut value, self.held);
-            let second = through(&self.cipher, self.kind, self.decrypt, &mut value, [16; 16]);
-            append(out, &joined(first, second))
-        } else {
-            let last = padded_block(self.held, self.count);
-            let text = through(&self.cipher, self.kind, self.decrypt, &mut value, last);
-            append(out, &text)
+        if out.reserve(32).is_err() {
+            return Err(FinishRefused::NoMemory);
         }
+        let (last, padding) = (*self.buffer.block(), [16; 16]);
+        self.mode.take(&last, &padding, out);
+        Ok(())
+    }
+
+    // What is held, less than a block, with its padding.
+    fn finish_short(&self, out: &mut Vec<u8>) -> Result<(), FinishRefused>
+        requires { length (held_of self.now.buffer) < 16 }
+        ensures { Finishes out.old.items out.new.items result (Ok (equations (C.enc self.now.mode.cipher) (C.dec self.now.mode.cipher) self.now.mode.kind self.now.mode.decrypt self.now.mode.value (padded (held_of self.now.buffer)))) }
+    {
+        let last = padded_block(*self.buffer.block(), self.buffer.len());
+        append(out, &self.mode.through(last))
     }
 
     // The last block, without its padding.
     fn finish_unpadded(&self, out: &mut Vec<u8>) -> Result<(), FinishRefused>
-        requires { self.now.count ≡ 16 }
-        ensures { Finishes out.old.items out.new.items result (unpadded (block_out (C.enc self.now.cipher) (C.dec self.now.cipher) self.now.kind self.now.decrypt self.now.value self.now.held)) }
+        requires { length (held_of self.now.buffer) ≡ 16 }
+        ensures { Finishes out.old.items out.new.items result (unpadded (block_out (C.enc self.now.mode.cipher) (C.dec self.now.mode.cipher) self.now.mode.kind self.now.mode.decrypt self.now.mode.value (held_of self.now.buffer))) }
     {
-        let mut value = self.value;
-        let text = through(&self.cipher, self.kind, self.decrypt, &mut value, self.held);
+        let text = self.mode.through(*self.buffer.block());
         match unpadded_len(&text) {
             Some(n) => append(out, &text[..n]),
             None => Err(FinishRefused::BadDecrypt),
@@ -175,28 +102,28 @@ impl<C: Block> Mode<C> {
 
     /// The end of the text: appends what is left of it, or refuses and appends nothing. A refusal other than of memory
     /// is that of the standard over all bytes fed.
-    pub fn finish(self, out: &mut Vec<u8>) -> Result<(), FinishRefused>
+    pub fn finish(mut self, out: &mut Vec<u8>) -> Result<(), FinishRefused>
         ensures { Finishes out.old.items out.new.items result (outcome_of self []) }
     {
-        match self.kind {
+        let count = self.buffer.len();
+        let wrong = FinishRefused::WrongFinalBlock { rest: count as u64 };
+        match self.mode.kind {
             ModeKind::Cfb | ModeKind::Ofb | ModeKind::Ctr => self.finish_plain(out),
             ModeKind::Ecb | ModeKind::Cbc => {
-                if self.pad && self.decrypt {
-                    if self.count == 16 {
+                if self.pad && self.mode.decrypt {
+                    if count == 16 {
                         self.finish_unpadded(out)
                     } else {
-                        Err(FinishRefused::WrongFinalBlock {
-                            rest: self.count as u64,
-                        })
+                        Err(wrong)
                     }
+                } else if self.pad && count == 16 {
+                    self.finish_full(out)
                 } else if self.pad {
-                    self.finish_padded(out)
-                } else if self.count % 16 == 0 {
+                    self.finish_short(out)
+                } else if count % 16 == 0 {
                     self.finish_plain(out)
                 } else {
-                    Err(FinishRefused::WrongFinalBlock {
-                        rest: self.count as u64,
-                    })
+                    Err(wrong)
                 }
             }
         }

@@ -1,21 +1,18 @@
-use Rattle.std.proofs.Common.{◌≡◌, ◌≤◌, ◌+◌, ◌-◌, ◌*◌, ◌++◌, ◌∙◌, ℕ, List, [], length, take, drop, ap, sym, refl, arith}
+use Rattle.std.proofs.Common.{◌≡◌, ◌≤◌, ◌+◌, ◌-◌, ◌*◌, ◌++◌, ◌∙◌, ℕ, List, length, take, drop, ap, sym, refl, arith}
 use Rattle.std.proofs.lemmas.List.{drop-drop}
 use Rattle.std.proofs.lemmas.Slice.{take-put_mid, drop-put_mid}
 use Rattle.ossl_aes.proofs.Lists.{block_slice}
-use Rattle.ossl_modes.proofs.Steps.{given_none, value_none, given_then, value_given}
+use Rattle.ossl_modes.proofs.Turns.{stepped_none, value_none, stepped_more, value_more}
 use Rattle.ossl_modes.proofs.blocks.each_through.Goals as goal
 
 pub block-init : goal.block-init
 block-init g c =
-    let cipher = c.args.cipher.now in
-    let kind = g.S.Step.kind c.args.step.now in
-    let decrypt = g.S.Step.decrypt c.args.step.now in
-    let v = c.args.value.now in
-    let room = c.args.room.now in
+    let out = g.S.Step.out (g.C.Block.enc c.args.cipher.now) (g.C.Block.dec c.args.cipher.now) in
+    let next = g.S.Step.next (g.C.Block.enc c.args.cipher.now) in
     record {
-      gives = given_none (g.C.Block.enc cipher) (g.C.Block.dec cipher) kind decrypt v room [];
+      gives = stepped_none out next c.args.value.now c.args.room.now;
       left = refl;
-      next = value_none (g.C.Block.enc cipher) (g.C.Block.dec cipher) kind decrypt v room;
+      next = value_none out next c.args.value.now c.args.room.now;
     }
 
 -- what is left after one block more
@@ -24,9 +21,8 @@ next_left i xs = drop-drop 16 (16 * i) xs ∙ ap (λ (k : ℕ). drop k xs) (omeg
 
 pub block-preserved : goal.block-preserved
 block-preserved g c =
-    let cipher = c.args.cipher.now in
-    let kind = g.S.Step.kind c.args.step.now in
-    let decrypt = g.S.Step.decrypt c.args.step.now in
+    let out = g.S.Step.out (g.C.Block.enc c.args.cipher.now) (g.C.Block.dec c.args.cipher.now) in
+    let next = g.S.Step.next (g.C.Block.enc c.args.cipher.now) in
     let v = c.args.value.now in
     let bytes = c.args.room.now in
     let i = c.block.i in
@@ -36,12 +32,10 @@ block-preserved g c =
     let within : 16 * i ≤ length room = omega arith in
     let long : length text ≡ 16 * i + 16 - 16 * i = omega arith in
     record {
-      gives = given_then (g.C.Block.enc cipher) (g.C.Block.dec cipher) kind decrypt i v bytes [] _ _ _ _ _
-          c.block.invariant.gives c.block.invariant.next block c.step-text.ensures.gives
+      gives = stepped_more out next i v bytes _ _ _ _ _ c.block.invariant.gives c.block.invariant.next block c.step-text.ensures.gives
           (take-put_mid (16 * i) (16 * i + 16 - 16 * i) room text (16 * (i + 1)) (omega arith) within
           ∙ ap (λ (x : List ℕ). take (16 * i) room ++ x) c.copy_from_slice-in-block.ensures.after);
       left = drop-put_mid (16 * i) (16 * i + 16 - 16 * i) room text (16 * (i + 1)) (omega arith) within long
           ∙ sym (next_left i room) ∙ ap (drop 16) c.block.invariant.left ∙ next_left i bytes;
-      next = value_given (g.C.Block.enc cipher) (g.C.Block.dec cipher) kind decrypt i v bytes _ _ _
-          c.block.invariant.next block c.step-text.ensures.next;
+      next = value_more out next i v bytes _ _ _ c.block.invariant.next block c.step-text.ensures.next;
     }
