@@ -1,5 +1,5 @@
 -- What the steps of a call tell together.
-use Rattle.std.proofs.Common.{◌≡◌, ◌≢◌, ℕ, ◌%◌, ◌^◌, List, [], ◌∷◌, ◌++◌, map, true, Some, Result, Ok, Err, refl, sym, ap, ◌∙◌, subst}
+use Rattle.std.proofs.Common.{◌≡◌, ◌≢◌, ℕ, ◌+◌, ◌%◌, ◌^◌, ◌≤◌, List, [], ◌∷◌, ◌++◌, map, true, All, Some, Result, Ok, Err, refl, sym, ap, ◌∙◌, subst, arith}
 use mathlib.Core.List.{IsPrefix}
 use mathlib.Core.Option.{none}
 use Rattle.atomic_table.specs.Table.{Me, step}
@@ -9,10 +9,10 @@ use Rattle.ossl_turn.specs.declared.rule.Claim.{Claim}
 use Rattle.ossl_turn.specs.declared.rule.Stage.TheVariants.{Turn}
 use Rattle.ossl_turn.specs.History.{own_of, entry_of, IsHistory}
 use Rattle.ossl_turn.specs.Turn.{ticket_of}
-use Rattle.ossl_turn.specs.Kinds.{at_stage, Finds, looked, HasTurn, IsWaiting, Holds, Makes, HasAnswer, HasNoAnswer, after_call, joined}
-use Rattle.ossl_turn.specs.Passes.{PassFacts, Answers, facts_of, claim_seen, taken_over}
+use Rattle.ossl_turn.specs.Kinds.{at_stage, Finds, looked, HasTurn, IsWaiting, Holds, Makes, HasAnswer, HasNoAnswer, after_call, joined, SeesHistory, newcomer, with_number}
+use Rattle.ossl_turn.specs.Passes.{PassFacts, Answers, HasHistory, facts_of, claim_seen, taken_over}
 use Rattle.atomic_table.specs.Seated.{TableId}
-use Rattle.ossl_turn.proofs.Views.{history_snoc, own_same}
+use Rattle.ossl_turn.proofs.Views.{history_snoc, own_none, own_same}
 use Rattle.ossl_turn.proofs.Keeps.{some_of, object_or}
 
 module _ {O C R F : Type 0} (history : O → List (Entry C R)) (fixed : O → F) (follows : F → List (Entry C R) → Entry C R → Type 0) where
@@ -93,3 +93,13 @@ module _ {O C R F : Type 0} (history : O → List (Entry C R)) (fixed : O → F)
 module _ {O C R F : Type 0} where
   pub joined_more : (v w : View C R F) (done : List (PassFacts C R F)) (p : PassFacts C R F) (m m' : Me O (View C R F)) (c : List (ℕ × O)) → m ≡ (taken_over v done, c) → w.claim ≡ claim_seen p → m' ≡ (joined m.0 w, m.1) → m' ≡ (taken_over v (p ∷ done), c)
   joined_more v w done p m m' c is claim next = next ∙ (ap (λ (z : Me O (View C R F)). (joined z.0 w, z.1)) is ∙ ap (λ (z : Claim C R). (record v { taken = z ∷ (map claim_seen done ++ v.taken) }, c)) claim)
+
+module _ {O C R F : Type 0} (fixed : O → F) (follows : F → List (Entry C R) → Entry C R → Type 0) where
+  -- what a pass that was just split off has seen is lawful, and it has no call in it
+  pub new_lawful : (id : TableId) (f : O) (v : View C R O) (m : Me O (View C R O)) → m ≡ (newcomer (with_number v), []) → v.origin ≡ Some f →
+      All (λ e. e.caller ≤ v.made) v.claim.seen → SeesHistory fixed follows v → HasHistory (follows (fixed f)) (facts_of id m)
+  new_lawful id f v m is fix low (f', origin, lawful) =
+      subst (λ (z : Me O (View C R O)). HasHistory (follows (fixed f)) (facts_of id z)) (sym is) (
+        subst (λ (x : O). IsHistory (follows (fixed x)) v.claim.seen) (some_of f' f (sym origin ∙ fix)) lawful,
+        own_none (v.made + 1) v.made v.claim.seen (omega arith) low,
+      )

@@ -18,7 +18,7 @@ use Rattle.ossl_turn.specs.declared.rule.Stage.TheVariants.{Idle, Waiting, Turn}
 use Rattle.ossl_turn.specs.History.{own_of, IsHistory}
 use Rattle.ossl_turn.specs.Turn.{HasTicket, has_turn, ticket_of, ticket_count, Stands, Now, Queues, IsSpent, Knows, TurnRule, first_view}
 use Rattle.ossl_turn.specs.Kinds.{SameFixed, at_stage, with_number, split_off, newcomer, joined, spent, after_call, drew_number, drew_ticket, served_none, served, Finds, looked}
-use Rattle.ossl_turn.proofs.Views.{set_there, set_swap, at_end_or, all_prefix, at_below, same_at, prefix_more, history_snoc, own_other, own_none, waiting_set, waiting_few, waiting_snoc, spent_stays}
+use Rattle.ossl_turn.proofs.Views.{set_there, set_swap, at_end_or, all_prefix, at_below, same_at, prefix_more, history_snoc, history_front, own_other, own_none, waiting_set, waiting_few, waiting_snoc, spent_stays}
 
 module _ {C R F : Type 0} (f : F) where
   -- what a pass has seen and called stands in a longer history that has no more under its number
@@ -362,7 +362,7 @@ module _ {O C R F : Type 0} (history : O → List (Entry C R)) (fixed : O → F)
   }
 
   -- drawing a number keeps the rule
-  pub draws_number : (f : O) (slots id : ℕ) (me : M) → me.0.live ≡ true → me.0.stage ≡ Idle → me.0.claim.number ≡ 0 → me.0.drawn ≡ me.0.made → Allows (Rule f) slots id me 0 (λ n. (n + 1) % 2 ^ 64) (drew_number (step slots 0 1 0 none) me)
+  pub draws_number : (f : O) (slots id : ℕ) (me : M) → me.0.live ≡ true → me.0.stage ≡ Idle → me.0.claim.number ≡ 0 → me.0.drawn ≡ me.0.made → Allows (Rule f) slots id me 0 (λ n. (n + 1) % 2 ^ 64) (drew_number fixed follows (step slots 0 1 0 none) me)
   draws_number f slots id me live idle zero_number level s r wide at small =
       let v : V = me.0 in let w : V = with_number v in let t : N = record r.now { drawn = r.now.drawn + 1 } in let kn = r.each id v at in let is_id : v.claim.number ≡ id = (kn.alive live).0 in let first = kn.first (sym is_id ∙ zero_number) in
       let made : v.made ≡ r.now.made = first.1 in let drawn : v.drawn ≡ r.now.drawn = first.2 in let few = r.few in
@@ -384,7 +384,13 @@ module _ {O C R F : Type 0} (history : O → List (Entry C R)) (fixed : O → F)
             (λ j m u ne there has has'. subst (λ st. HasTicket st m) idle has')
             (λ m lo hi. inr (lo, hi, λ has. subst (λ st. HasTicket st m) idle has))
             (object_stays f r.now.log s.homes s.views id v w at (ap has_turn idle) r.object) r.lawful r.within,
-        (refl, ap (λ ws. get_or ws 0 0) r.words ∙ sym drawn, all_prefix (λ (e : E). e.caller ≤ v.made) v.claim.seen r.now.log (kn.alive live).1.0 (subst (λ (n : ℕ). All (λ (e : E). e.caller ≤ n) r.now.log) (sym made) r.within)),
+        (
+          refl,
+          ap (λ ws. get_or ws 0 0) r.words ∙ sym drawn,
+          all_prefix (λ (e : E). e.caller ≤ v.made) v.claim.seen r.now.log (kn.alive live).1.0
+              (subst (λ (n : ℕ). All (λ (e : E). e.caller ≤ n) r.now.log) (sym made) r.within),
+          (f, (kn.alive live).2, history_front (follows (fixed f)) v.claim.seen r.now.log (kn.alive live).1.0 r.lawful),
+        ),
       )
 
   -- splitting a pass off the first keeps the rule

@@ -87,6 +87,12 @@ module _ {C R : Type 0} where
       (λ (t : (log ≡ before) × (e ≡ x)). subst (λ (z : List (Entry C R) × Entry C R). follows z.0 z.1) (λ i. (t.0 i, t.1 i)) last)
       (λ (t : (rest : List (Entry C R)) × (log ≡ before ++ x ∷ rest)). h before x t.0 t.1) (snoc_split log before after e x p)
 
+  -- how a history begins is a history
+  pub history_front : (follows : List (Entry C R) → Entry C R → Type 0) (seen log : List (Entry C R)) →
+      IsPrefix seen log → IsHistory follows log → IsHistory follows seen
+  history_front follows seen log p h before e after cut = h before e (after ++ p.0)
+      (sym p.1 ∙ (ap (λ (z : List (Entry C R)). z ++ p.0) cut ∙ append_assoc before (e ∷ after) p.0))
+
   -- another caller's entry is not its own
   pub own_other : (n : ℕ) (log : List (Entry C R)) (e : Entry C R) → e.caller ≢ n → own_of n (log ++ e ∷ []) ≡ own_of n log
   own_other n log e ne = filter-append (is_of n) log (e ∷ []) ∙ ap (λ (b : Bool). filter (is_of n) log ++ cond b (e ∷ []) []) (ne_eqb e.caller n ne) ∙ append-nil (own_of n log)

@@ -35,10 +35,6 @@ module _ {C R F : Type 0} where
   after_call v h = record v { stage = Idle; claim = claim_of v.claim.number (own_of v.claim.number h) h }
 
   module _ {O : Type 0} where
-    -- draw number: the first pass holds the next number
-    abbrev pub drew_number : Step O → Me O (View C R F) → ℕ → Me O (View C R F) → Type 0
-    drew_number st m r n = (n ≡ (with_number m.0, m.1)) × (r ≡ m.0.drawn) × All (λ e. e.caller ≤ m.0.made) m.0.claim.seen
-
     -- draw ticket: the caller has this ticket
     abbrev pub drew_ticket : Step O → Me O (View C R F) → ℕ → Me O (View C R F) → Type 0
     drew_ticket st m r n = (k : ℕ) × (n ≡ (at_stage m.0 (Waiting k), m.1)) × (r ≡ k % 2 ^ 64)
@@ -51,6 +47,17 @@ module _ {O C R F : Type 0} (fixed : O → F) where
   -- the object has the fixed part of the object as it was opened
   abbrev pub SameFixed : View C R O → O → Type 0
   SameFixed v o = (f : O) × (v.origin ≡ Some f) × (fixed o ≡ fixed f)
+
+module _ {O C R F : Type 0} (fixed : O → F) (follows : F → List (Entry C R) → Entry C R → Type 0) where
+  -- what the pass has seen is a history of the object as it was opened
+  abbrev pub SeesHistory : View C R O → Type 0
+  SeesHistory v = (f : O) × (v.origin ≡ Some f) × IsHistory (follows (fixed f)) v.claim.seen
+
+  -- draw number: the first pass holds the next number, and is told of what it has seen: that it is lawful, and that no
+  -- entry in it has a number above what was made
+  abbrev pub drew_number : Step O → Me O (View C R O) → ℕ → Me O (View C R O) → Type 0
+  drew_number st m r n = (n ≡ (with_number m.0, m.1)) × (r ≡ m.0.drawn)
+      × All (λ e. e.caller ≤ m.0.made) m.0.claim.seen × SeesHistory m.0
 
 module _ {C R F : Type 0} where
   module _ {O : Type 0} (history : O → List (Entry C R)) where

@@ -44,6 +44,10 @@ module _ {C R F : Type 0} where
     pub own_seen : own_of after.number after.seen ≡ after.own
     pub stays : (after.of ≡ before.of) × (after.origin ≡ before.origin) × (after.number ≡ before.number) × (after.made ≡ before.made)
 
+  -- what the pass has seen is a history, and its own calls are all that this has under its number
+  abbrev pub HasHistory : (List (Entry C R) → Entry C R → Type 0) → PassFacts C R F → Type 0
+  HasHistory may_follow p = IsHistory may_follow p.seen × (own_of p.number p.seen ≡ p.own)
+
   -- the pass p is split off the first: it has the next number, no call of its own, and has seen what the first has, in which no entry has a number above what was made
   pub record IsSplit (before after p : PassFacts C R F) : Type 0 where
     pub number : p.number ≡ before.made + 1
@@ -61,6 +65,23 @@ module _ {C R F : Type 0} where
   -- the passes have the numbers 1, 2, 3 and so on, and none split off another
   abbrev pub AreNumbered : List (PassFacts C R F) → Type 0
   AreNumbered passes = (k : ℕ) (d : PassFacts C R F) → k < length passes → ((slice_index_or passes k d).number ≡ k + 1) × ((slice_index_or passes k d).made ≡ 0)
+
+  -- a pass split off this first one: no call is its own, and it has seen what the first has
+  pub record IsFresh (first p : PassFacts C R F) : Type 0 where
+    pub of : p.of ≡ first.of
+    pub origin : p.origin ≡ first.origin
+    pub made : p.made ≡ 0
+    pub own : p.own ≡ []
+    pub seen : p.seen ≡ first.seen
+
+  -- the first pass after so many passes were split off it: its lists and the shared object stay
+  pub record IsAfterSplits (count : ℕ) (before after : PassFacts C R F) : Type 0 where
+    pub of : after.of ≡ before.of
+    pub origin : after.origin ≡ before.origin
+    pub number : after.number ≡ before.number
+    pub made : after.made ≡ before.made + count
+    pub own : after.own ≡ before.own
+    pub seen : after.seen ≡ before.seen
 
   -- the history begins with what the pass has seen, and the pass's own calls are all that it has under its number
   abbrev pub Confirms : List (Entry C R) → PassFacts C R F → Type 0

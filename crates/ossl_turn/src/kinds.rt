@@ -12,7 +12,7 @@ pub(crate) struct DrawNumber<O> {
 }
 
 impl<O: Object> Play<O, PassView<O>> for DrawNumber<O> {
-    ghost then = { drew_number };
+    ghost then = { drew_number O.fixed O.follows };
 }
 
 /// A caller draws a ticket: word 1, a fetch and add.

@@ -1,7 +1,7 @@
 //! The object that threads share.
 ghost use Rattle.std.specs.Prelude.{◌≡◌, ◌<◌, [], Some, IfOk, IfErr, OnErr, IsOk, All, length};
 ghost use Rattle.ossl_turn.specs.History.{entry_of, IsHistory};
-ghost use Rattle.ossl_turn.specs.Passes.{CameFrom, MayFind, Answers, IsSplit, AreAll, Confirms};
+ghost use Rattle.ossl_turn.specs.Passes.{CameFrom, MayFind, Answers, HasHistory, IsSplit, AreAll, Confirms};
 
 use crate::kinds::{DrawNumber, NewPass};
 use crate::object::Object;
@@ -19,8 +19,7 @@ use std::sync::{Mutex, Wait};
 /// A clause sees which one it is (`of`) and the object as it was opened (`origin`), whose fixed part no call changes.
 pub struct Shared<O: Object> {
     table: Table<O, PassView<O>, Snapshot<O>, Turn<O>, Global>,
-    /// Callers wait at the door, asleep after a short while, and whoever is let in draws a ticket.
-    /// The order of calls is the order of tickets: no clause speaks of the door, and no proof rests on it.
+    /// Where callers sleep, as lib.rt tells.
     door: Mutex<()>,
 }
 
@@ -76,7 +75,7 @@ impl<O: Object> Shared<O> {
         }
     }
 
-    /// Waits for its turn, and makes the call. Where there is no memory for it, the pass is as before.
+    /// Makes the call when its turn has come. Where there is no memory for it, the pass is as before.
     pub fn call<R: Wait>(
         &self,
         rt: &R,
@@ -111,6 +110,9 @@ impl<O: Object> Shared<O> {
         requires pass { CameFrom self.now first.old }
         requires first { (first.old.number ≡ 0) × (first.old.made < 65535) }
         ensures split { IfOk result (λ p. IsSplit first.old first.new p) }
+
+        // What the new pass has seen is lawful, as all that an answered call shows is.
+        ensures lawful { IfOk result (λ p. HasHistory (O.follows (O.fixed self.now.origin)) p) }
         ensures refused { OnErr result (first.new ≡ first.old) }
         ensures memory { IsOk result }
     {

@@ -1,4 +1,4 @@
-//! The steps of one call: wait for the turn, make the call on the object, and end the turn.
+//! The steps of one call: take the turn, make the call on the object, and end the turn.
 ghost use Rattle.std.specs.Prelude.{◌≡◌, [], ◌∷◌, true, IsOk};
 ghost use Rattle.ossl_turn.specs.declared.rule.Stage.TheVariants.{Idle};
 ghost use Rattle.ossl_turn.specs.History.{own_of};
@@ -29,7 +29,7 @@ pub(crate) const SERVING: usize = 2;
 /// The slot of the object.
 pub(crate) const OBJECT: usize = 0;
 
-/// Draws a ticket, and looks until its turn has come. The seat then holds the object.
+/// Takes the turn, with a ticket of its own. The seat then holds the object.
 pub(crate) fn take_turn<O: Object, R: Wait>(table: &TurnTable<O>, rt: &R, seat: &mut TurnSeat<O>)
     requires table { (seat.old.table_id ≡ table.now.table_id) × (table.now.table_id.words ≡ 3) × (table.now.table_id.slots ≡ 1) }
     requires idle { (seat.old.me.1 ≡ []) × (seat.old.me.0.live ≡ true) × (seat.old.me.0.stage ≡ Idle) }

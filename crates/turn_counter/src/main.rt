@@ -8,8 +8,8 @@ mod counter;
 #[cfg(test)]
 mod tests;
 
-use callers::{add_at_once, close_all, split_all};
-use counter::Counter;
+use callers::{add_at_once, dismiss, hire};
+use counter::{Add, Counter};
 use ossl_turn::{ShareRefused, Shared};
 use std::alloc::AllocError;
 use std::{env, io};
@@ -28,20 +28,29 @@ fn main(rt: HostRuntime) -> io::Result<()> {
         return println!(rt; "usage: turn_counter CALLERS CALLS");
     };
     let callers = callers.min(MOST);
-    let mut passes = Vec::with_capacity(alloc, callers + 1)?;
+    let mut heard = Vec::with_capacity(alloc, callers)?;
+    let mut adders = Vec::with_capacity(alloc, callers)?;
+    let Ok(mut passes) = Vec::with_capacity(alloc, callers + 1) else {
+        adders.destroy_empty();
+        return Err(AllocError.into());
+    };
     let (shared, mut first) = match Shared::open(alloc, Counter::new(alloc)) {
         Ok(opened) => opened,
         Err(ShareRefused { object: _ }) => {
+            adders.destroy_empty();
             passes.destroy_empty();
             return Err(AllocError.into());
         }
     };
-    split_all(&shared, &mut first, &mut passes, callers);
-    add_at_once(alloc, &rt, &shared, &mut passes, calls);
-    let counter = close_all(shared, first, passes);
-    let entries = counter.entries().len();
-    if entries != callers.saturating_mul(calls) {
-        return Err(AllocError.into());
-    }
-    println!(rt; "{entries} entries, total {}", counter.total())
+    shared.split_all(&mut first, &mut passes, callers);
+    hire(&shared, &mut passes, &mut adders, Add(1));
+    let added = add_at_once(alloc, &rt, &shared, &mut adders, calls);
+    dismiss(&shared, adders, &mut passes, &mut heard);
+    let counter = shared.close_all(first, passes);
+    added?;
+    println!(rt;
+        "{} entries, total {}",
+        counter.entries().len(),
+        counter.total()
+    )
 }

@@ -1,15 +1,14 @@
-ghost use Rattle.std.specs.Prelude.{◌≡◌, ◌<◌, [], All, length};
-ghost use Rattle.ossl_turn.specs.Passes.{CameFrom, AreNumbered};
+ghost use Rattle.std.specs.Prelude.{◌≡◌, []};
+ghost use Rattle.ossl_turn.specs.Passes.{CameFrom};
 
-use super::callers::{add_often, close_all, split_all};
+use super::callers::{add_at_once, dismiss, hire};
 use super::counter::{Add, Counter};
 use fails_once::FailsOnce;
 use ossl_turn::{Object, Pass, ShareRefused, Shared};
 use std::alloc::Global;
 use std::process::Abort;
-use std::sync::{Mutex, Wait};
 use std::test::Fail;
-use std::thread::{Threads, for_each_mut, join_mut};
+use std::thread::join_mut;
 
 mod fails_once;
 
@@ -44,7 +43,7 @@ fn two_threads_take_turns(rt: HostRuntime) -> Result<(), Fail> {
     );
     passes.push_reserved(one);
     passes.push_reserved(two);
-    let counter = close_all(shared, first, passes);
+    let counter = shared.close_all(first, passes);
     let entries = counter.entries();
     assert_eq!(rt; entries.len(), 2);
     if entries[0].caller == 1 {
@@ -68,61 +67,29 @@ fn two_threads_take_turns(rt: HostRuntime) -> Result<(), Fail> {
     Ok(())
 }
 
-// What each of the callers hears, at the place of its number less 1.
-fn listened<R: Threads + Wait + Sync>(
-    alloc: Global,
-    rt: &R,
-    shared: &Shared<Counter>,
-    passes: &mut [Pass<Counter>],
-    heard: &[Mutex<Vec<u64>>],
-)
-    requires { All (CameFrom shared.now) passes.old × AreNumbered passes.old × (0 < length passes.old) }
-    ensures { All (CameFrom shared.now) passes.new × AreNumbered passes.new × (length passes.new ≡ length passes.old) }
-{
-    let threads = passes.len();
-    for_each_mut(
-        rt,
-        passes,
-        threads,
-        &|i, pass: &mut Pass<Counter>|
-            requires { CameFrom shared.now pass.old }
-            ensures { CameFrom shared.entry.now pass.new × (pass.new.number ≡ pass.old.number) × (pass.new.made ≡ pass.old.made) }
-        {
-            let amount = Add(pass.number());
-            if let (Ok(replies), Some(place)) = (
-                add_often(alloc, rt, shared, pass, amount, 1000),
-                heard.get(i),
-            ) {
-                *place.lock(rt) = replies;
-            }
-        },
-    );
-}
-
 #[test]
 fn each_caller_finds_what_it_heard(rt: HostRuntime) -> Result<(), Fail> {
     let alloc = rt.alloc();
-    let mut heard = Vec::new(alloc);
-    for _ in 0..16 {
-        heard
-            .push(Mutex::new(Vec::new(alloc)))
-            .expect(&rt, "no memory");
-    }
+    let mut heard = Vec::with_capacity(alloc, 16).expect(&rt, "no memory");
+    let mut adders = Vec::with_capacity(alloc, 16).expect(&rt, "no memory");
     let mut passes = Vec::with_capacity(alloc, 17).expect(&rt, "no memory");
     let (shared, mut first) = opened(alloc, &rt, Counter::new(alloc));
-    split_all(&shared, &mut first, &mut passes, 16);
-    listened(alloc, &rt, &shared, &mut passes, &heard);
-    let counter = close_all(shared, first, passes);
+    shared.split_all(&mut first, &mut passes, 16);
+    hire(&shared, &mut passes, &mut adders, Add(5));
+    let added = add_at_once(alloc, &rt, &shared, &mut adders, 1000);
+    assert!(rt; added.is_ok());
+    dismiss(&shared, adders, &mut passes, &mut heard);
+    let counter = shared.close_all(first, passes);
     assert_eq!(rt; counter.entries().len(), 16_000);
-    assert_eq!(rt; counter.total(), 136_000);
-    for (i, place) in heard.into_iter().enumerate() {
+    assert_eq!(rt; counter.total(), 80_000);
+    for (i, replies) in heard.into_iter().enumerate() {
         let caller = i as u64 + 1;
         let own = counter.entries().iter().filter(|e| e.caller == caller);
-        let replies = place.into_inner();
+        let replies = replies.expect(&rt, "no memory");
         assert_eq!(rt; replies.len(), 1000);
         assert!(rt;
             own.map(|e| (e.call, e.reply))
-                .eq(replies.into_iter().map(|r| (Add(caller), r)))
+                .eq(replies.into_iter().map(|r| (Add(5), r)))
         );
     }
     Ok(())
@@ -141,7 +108,7 @@ fn a_refused_call_leaves_the_pass(rt: HostRuntime) -> Result<(), Fail> {
     assert_eq!(rt; shared.call(&rt, &mut first, &Add(2)), Ok(3));
     assert!(rt; shared.call(&rt, &mut first, &Add(3)).is_err());
     assert_eq!(rt; shared.call(&rt, &mut first, &Add(4)), Ok(7));
-    let counter = close_all(shared, first, passes).object;
+    let counter = shared.close_all(first, passes).object;
     let amounts = counter.entries().iter().map(|e| (e.caller, e.call.0));
     assert!(rt; amounts.eq([(0, 1), (0, 2), (0, 4)]));
     Ok(())
