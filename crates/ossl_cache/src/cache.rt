@@ -65,9 +65,9 @@ impl QueryCache {
         ensures first { self.new ≡ with_answer key kept self.old }
     {
         empty(&mut self.slots, Going::Key(&key));
-        let place = next_place(self.slots.as_slice(), &self.order);
-        self.slots[place] = Some((key, kept));
-        self.order.promote(&place);
+        let free = next_place(self.slots.as_slice(), &self.order);
+        self.slots[free] = Some((key, kept));
+        self.order.promote(&free);
     }
 
     /// Takes every key out. It takes no memory.

@@ -12,7 +12,7 @@ use Rattle.ossl_cache.proofs.cache.QueryCache.keep.Goals as goal
 pub index_mut-requires : goal.index_mut-requires
 index_mut-requires c =
     let below = next_below (with_items c.self.inside.slots c.empty.new.slots).items c.self.inside.order.entries c.self.invariant.all c.self.invariant.once in
-    let chosen = c.next_place-place.ensures ∙ ap (λ s. next_place s c.self.inside.order.entries) c.as_slice.ensures.value in
+    let chosen = c.next_place-free.ensures ∙ ap (λ s. next_place s c.self.inside.order.entries) c.as_slice.ensures.value in
     omega (arith, below, chosen, c.self.invariant.room, c.self.inside.slots.ok.0)
 
 pub invariant_of-self : goal.invariant_of-self
@@ -22,11 +22,11 @@ invariant_of-self c =
     let changed = c.empty.ensures ∙ ap (λ s. map (emptied test) s) c.deref_mut.ensures.value in
     let emptied_now = (with_items c.self.inside.slots c.empty.new.slots).items in
     let place = next_place emptied_now es in
-    let chosen = c.next_place-place.ensures ∙ ap (λ s. next_place s es) c.as_slice.ensures.value in
+    let chosen = c.next_place-free.ensures ∙ ap (λ s. next_place s es) c.as_slice.ensures.value in
     let next = next_of emptied_now es c.self.invariant.all c.self.invariant.once in
     let new : c.promote.new.self.entries ≡ promoted (nat_eq place) es = ap (λ o. o.entries) c.promote.ensures.entries ∙ ap (λ p. promoted (nat_eq p) es) chosen in
     record {
-      room = length-set emptied_now c.next_place-place.result (Some (c.args.key, c.args.kept)) ∙ ap length (emptied-items c.self.inside.slots test c.empty.new.slots changed) ∙ length-map c.self.inside.slots.items (emptied test) ∙ c.self.invariant.room;
+      room = length-set emptied_now c.next_place-free.result (Some (c.args.key, c.args.kept)) ∙ ap length (emptied-items c.self.inside.slots test c.empty.new.slots changed) ∙ length-map c.self.inside.slots.items (emptied test) ∙ c.self.invariant.room;
       all = ap length new ∙ promoted_length place es next.entry ∙ c.self.invariant.all;
       once = ap are_places new ∙ promoted_places place es c.self.invariant.once next.entry;
     }
@@ -39,9 +39,9 @@ returns c =
     let changed = c.empty.ensures ∙ ap (λ s. map (emptied test) s) c.deref_mut.ensures.value in
     let emptied_now = (with_items c.self.inside.slots c.empty.new.slots).items in
     let room : length emptied_now ≡ most = ap length (emptied-items c.self.inside.slots test c.empty.new.slots changed) ∙ length-map c.self.inside.slots.items (emptied test) ∙ c.self.invariant.room in
-    let chosen = c.next_place-place.ensures ∙ ap (λ s. next_place s es) c.as_slice.ensures.value in
+    let chosen = c.next_place-free.ensures ∙ ap (λ s. next_place s es) c.as_slice.ensures.value in
     record {
-      first = ap (λ o. shown (slice_set emptied_now c.next_place-place.result (Some answer)) o.entries) c.promote.ensures.entries
+      first = ap (λ o. shown (slice_set emptied_now c.next_place-free.result (Some answer)) o.entries) c.promote.ensures.entries
           ∙ ap (λ p. shown (slice_set emptied_now p (Some answer)) (promoted (nat_eq p) es)) chosen
           ∙ shown-new emptied_now answer es room c.self.invariant.all c.self.invariant.once
           ∙ ap (λ as'. answer ∷ take 63 as') (emptied-shows c.self.inside.slots test c.empty.new.slots changed es ∙ ap (without test) c.self.view_is);

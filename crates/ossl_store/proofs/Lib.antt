@@ -1,0 +1,6 @@
+pub mod Positions
+pub mod Moves
+pub mod Ascending
+pub mod Picking
+pub mod Offers
+pub mod Choosing

@@ -1,0 +1,5 @@
+pub mod Offering
+pub mod Best
+pub mod Shelves
+pub mod Stored
+pub mod Choice
