@@ -10,22 +10,22 @@ use Rattle.ossl_provider.specs.Sheet.{Facts}
 use Rattle.ossl_turn.specs.History.{own_of, entry_of, IsHistory}
 use Rattle.ossl_turn.specs.Passes.{Answers}
 use Rattle.ossl_turn.proofs.Views.{own_same, history_front}
-use Rattle.ossl_calls.specs.declared.call.Call.{Call}
-use Rattle.ossl_calls.specs.declared.call.Call.TheVariants.{Load, Fetch, UpRef, NewCtx}
-use Rattle.ossl_calls.specs.declared.call.Reply.{Reply}
-use Rattle.ossl_calls.specs.declared.call.Reply.TheVariants.{Loaded, Fetched, Made}
-use Rattle.ossl_calls.specs.declared.state.Kind.TheVariants.{Method, Context}
-use Rattle.ossl_calls.specs.declared.state.State.{State}
-use Rattle.ossl_calls.specs.Best.{best_method}
-use Rattle.ossl_calls.specs.History.{Fixed, IsRun, IsLegal, IsNext, state_after}
-use Rattle.ossl_calls.specs.Sound.{is_own, is_lent_to, lent_after, number_of_live, number_of_lent}
-use Rattle.ossl_calls.specs.Boxes.{place_of}
-use Rattle.ossl_calls.specs.Step.{after_fallback, IsLoaded}
-use Rattle.ossl_calls.specs.Step as step
-use Rattle.ossl_calls.specs.Tokens.{Token, activation_token, method_token, context_token, gains_by, owns_after_entry, owns_after, owns}
-use Rattle.ossl_calls.proofs.HistoryLaws.{state_after-push}
-use Rattle.ossl_calls.proofs.LegalLaws.{sound_after}
-use Rattle.ossl_calls.proofs.TokenLaws.{fetched_some}
+use Rattle.ossl_state.specs.declared.call.Call.{Call}
+use Rattle.ossl_state.specs.declared.call.Call.TheVariants.{Load, Fetch, UpRef, NewCtx}
+use Rattle.ossl_state.specs.declared.call.Reply.{Reply}
+use Rattle.ossl_state.specs.declared.call.Reply.TheVariants.{Loaded, Fetched, Made}
+use Rattle.ossl_state.specs.declared.state.Kind.TheVariants.{Method, Context}
+use Rattle.ossl_state.specs.declared.state.State.{State}
+use Rattle.ossl_state.specs.Best.{best_method}
+use Rattle.ossl_state.specs.History.{Fixed, IsRun, IsLegal, IsNext, state_after}
+use Rattle.ossl_state.specs.Sound.{is_own, is_lent_to, lent_after, number_of_live, number_of_lent}
+use Rattle.ossl_state.specs.Boxes.{place_of}
+use Rattle.ossl_state.specs.Step.{after_fallback, IsLoaded}
+use Rattle.ossl_state.specs.Step as step
+use Rattle.ossl_state.specs.Tokens.{Token, activation_token, method_token, context_token, gains_by, owns_after_entry, owns_after, owns}
+use Rattle.ossl_state.proofs.HistoryLaws.{state_after-push}
+use Rattle.ossl_state.proofs.LegalLaws.{sound_after}
+use Rattle.ossl_state.proofs.TokenLaws.{fetched_some}
 use Rattle.ossl_codes.specs.declared.code.Code.{Code}
 use Rattle.ossl_codes.specs.declared.code.Operation.{Operation}
 use Rattle.ossl_property.specs.declared.clause.Clause.{Clause}

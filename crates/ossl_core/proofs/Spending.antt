@@ -3,9 +3,9 @@ use Rattle.std.proofs.Common.{◌≡◌, ℕ, true, List, ◌∙◌, inl, inr}
 use Rattle.std.proofs.lemmas.Bool.{cases_Bool, eqb-true, true≢false}
 use Rattle.std.proofs.Common.{sym, ap}
 use Rattle.ossl_base.specs.declared.entry.Entry.{Entry}
-use Rattle.ossl_calls.specs.declared.call.Call.{Call}
-use Rattle.ossl_calls.specs.declared.call.Reply.{Reply}
-use Rattle.ossl_calls.specs.Tokens.{Token, activation_token, method_token, context_token, owns}
+use Rattle.ossl_state.specs.declared.call.Call.{Call}
+use Rattle.ossl_state.specs.declared.call.Reply.{Reply}
+use Rattle.ossl_state.specs.Tokens.{Token, activation_token, method_token, context_token, owns}
 use Rattle.ossl_core.specs.Owned.{is_token, HasGained, HasGivenBack, HasKept, IsFresh, OwnsNothing}
 
 -- one token is the other: what is owned of the one is owned of the other

@@ -4,11 +4,11 @@ use Rattle.std.specs.Prelude.{◌≡◌, ℕ, List}
 use Rattle.ossl_codes.specs.declared.code.Code.{Code}
 use Rattle.ossl_turn.specs.History.{entry_of}
 use Rattle.ossl_turn.specs.Passes.{PassFacts, SharedFacts, CameFrom, Answers}
-use Rattle.ossl_calls.specs.declared.call.Call.{Call}
-use Rattle.ossl_calls.specs.declared.call.Reply.{Reply}
-use Rattle.ossl_calls.specs.History.{Fixed, IsLegal, IsNext}
+use Rattle.ossl_state.specs.declared.call.Call.{Call}
+use Rattle.ossl_state.specs.declared.call.Reply.{Reply}
+use Rattle.ossl_state.specs.History.{Fixed, IsLegal, IsNext}
 use Rattle.ossl_calls.specs.Registry.{Shown}
-use Rattle.ossl_calls.specs.Tokens.{Token}
+use Rattle.ossl_state.specs.Tokens.{Token}
 use Rattle.ossl_core.specs.Owned.{HasGained, HasGivenBack, HasKept, IsFresh}
 
 -- a caller: its number, its own entries, and the history that it has seen

@@ -1,7 +1,7 @@
 -- Calls that handed out nothing.
 use Rattle.std.specs.Prelude.{◌≡◌}
-use Rattle.ossl_calls.specs.declared.call.Call.{Call}
-use Rattle.ossl_calls.specs.History.{Fixed}
+use Rattle.ossl_state.specs.declared.call.Call.{Call}
+use Rattle.ossl_state.specs.History.{Fixed}
 use Rattle.ossl_core.specs.declared.denied.Denied.{Denied}
 use Rattle.ossl_core.specs.declared.denied.Denied.TheVariants.{By, NoMemory}
 use Rattle.ossl_core.specs.Answered.{CallerFacts, Declines}

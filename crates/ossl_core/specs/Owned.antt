@@ -1,9 +1,9 @@
 -- What a caller owns after its calls, by its own entries.
 use Rattle.std.specs.Prelude.{◌≡◌, ℕ, Bool, true, false, nat_eq, IsFalse, if◌then◌else◌, List}
 use Rattle.ossl_base.specs.declared.entry.Entry.{Entry}
-use Rattle.ossl_calls.specs.declared.call.Call.{Call}
-use Rattle.ossl_calls.specs.declared.call.Reply.{Reply}
-use Rattle.ossl_calls.specs.Tokens.{Token, activation_token, method_token, context_token, owns}
+use Rattle.ossl_state.specs.declared.call.Call.{Call}
+use Rattle.ossl_state.specs.declared.call.Reply.{Reply}
+use Rattle.ossl_state.specs.Tokens.{Token, activation_token, method_token, context_token, owns}
 
 -- whether two tokens are one: the same number, of the same kind
 abbrev pub is_token : ℕ → Token → ℕ → Token → Bool

@@ -1,8 +1,8 @@
 //! A caller, and the one call by which it reaches the registry.
 ghost use Rattle.std.specs.Prelude.{◌≡◌, ℕ, IsTrue, IsOk, IfOk, OnErr};
-ghost use Rattle.ossl_calls.specs.History.{IsAllowed, IsNext};
+ghost use Rattle.ossl_state.specs.History.{IsAllowed, IsNext};
 ghost use Rattle.ossl_calls.specs.Registry.{Shown, fixed_of, state_of, takes_no_memory};
-ghost use Rattle.ossl_calls.specs.Tokens.{Token, gains_by, owns, owns_after_entry};
+ghost use Rattle.ossl_state.specs.Tokens.{Token, gains_by, owns, owns_after_entry};
 ghost use Rattle.ossl_turn.specs.History.{entry_of};
 ghost use Rattle.ossl_turn.specs.Passes.{CameFrom, MayFind};
 ghost use Rattle.ossl_core.specs.Answered.{IsAnswered, IsStillOf};

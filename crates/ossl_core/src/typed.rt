@@ -2,7 +2,7 @@
 ghost use Rattle.std.specs.Prelude.{◌≡◌, ◌<◌, ℕ, IsTrue, IfOk, IfErr, OnErr};
 ghost use Rattle.std.specs.Option.{option_map};
 ghost use Rattle.ossl_calls.specs.Registry.{fixed_of};
-ghost use Rattle.ossl_calls.specs.Tokens.{Token, activation_token, method_token, context_token, owns, owns_inner};
+ghost use Rattle.ossl_state.specs.Tokens.{Token, activation_token, method_token, context_token, owns, owns_inner};
 ghost use Rattle.ossl_turn.specs.Passes.{CameFrom};
 ghost use Rattle.ossl_core.specs.Answered.{Declines, HandsOut, IsStillOf, TakesBack};
 ghost use Rattle.ossl_core.specs.Denials.{IsDenied};

@@ -1,6 +1,6 @@
 //! The registry as an object that threads call in turn.
 ghost use Rattle.std.specs.Prelude.{◌≡◌, ◌<◌, ◌++◌, ◌∷◌, [], IsTrue, IsOk, IfOk, OnErr};
-ghost use Rattle.ossl_calls.specs.History.{IsAllowed, IsNext};
+ghost use Rattle.ossl_state.specs.History.{IsAllowed, IsNext};
 ghost use Rattle.ossl_calls.specs.Registry.{fixed_of, state_of, takes_no_memory};
 ghost use Rattle.ossl_turn.specs.History.{own_of, entry_of};
 
@@ -41,7 +41,7 @@ fn apply_counted<P: Provider, L: Ledger>(
 
 impl<P: Provider + Send> Object for Registry<P> {
     ghost use Rattle.std.specs.Prelude.{IsTrue};
-    ghost use Rattle.ossl_calls.specs.History as history;
+    ghost use Rattle.ossl_state.specs.History as history;
     ghost use Rattle.ossl_calls.specs.Registry.{fixed_of, state_of, takes_no_memory};
 
     type Call = Call;

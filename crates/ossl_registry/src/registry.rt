@@ -1,8 +1,8 @@
 ghost use Rattle.std.specs.Prelude.{◌≡◌, ◌≤◌, ◌++◌, ◌∷◌, [], map, IsTrue, IsOk, IfOk, IfErr, OnErr};
-ghost use Rattle.ossl_calls.specs.History.{IsLegal, IsAllowed};
+ghost use Rattle.ossl_state.specs.History.{IsLegal, IsAllowed};
 ghost use Rattle.ossl_calls.specs.Registry.{IsCatalogue, HasSheets, fixed_of, state_of, takes_no_memory};
-ghost use Rattle.ossl_calls.specs.Sound.{LegalIsSound};
-ghost use Rattle.ossl_calls.specs.Tokens.{entries_of};
+ghost use Rattle.ossl_state.specs.Sound.{LegalIsSound};
+ghost use Rattle.ossl_state.specs.Tokens.{entries_of};
 
 use ossl_calls::{Call, Entry, OpenRefused, PlainRegistry, Reply};
 use ossl_property::Steps;

@@ -1,9 +1,9 @@
 use Rattle.std.proofs.Common.{◌≡◌, List, [], ◌∷◌, ◌++◌, subst}
 use Rattle.ossl_base.specs.declared.entry.Entry.{Entry}
-use Rattle.ossl_calls.specs.declared.call.Call.{Call}
-use Rattle.ossl_calls.specs.declared.call.Reply.{Reply}
-use Rattle.ossl_calls.specs.History.{Fixed, IsLegal, IsNext}
-use Rattle.ossl_calls.proofs.HistoryLaws.{IsLegal-last}
+use Rattle.ossl_state.specs.declared.call.Call.{Call}
+use Rattle.ossl_state.specs.declared.call.Reply.{Reply}
+use Rattle.ossl_state.specs.History.{Fixed, IsLegal, IsNext}
+use Rattle.ossl_state.proofs.HistoryLaws.{IsLegal-last}
 use Rattle.ossl_registry.proofs.object.apply_counted.Goals as goal
 
 -- the last entry of a legal history is a step
