@@ -4,7 +4,7 @@ use Rattle.std.specs.Int.{w32, to_be_bytes, from_be_bytes}
 use Rattle.std.proofs.lemmas.Nat.{be_bytes_4}
 use Rattle.ossl_aes.specs.Field.{unsub}
 use Rattle.ossl_aes.specs.Cipher.{add, word_at, rounds, inv_rounds, round_key, cipher, inv_cipher, column, inv_mix_columns, inv_shift_rows}
-use Rattle.ossl_aes.specs.State.{state_of, round, last_round, inv_round, last_inv_round, AreInvMixed}
+use Rattle.ossl_aes.specs.Rounds.{state_of, round, last_round, inv_round, last_inv_round, AreInvMixed}
 use Rattle.ossl_aes.proofs.FieldFacts.{row-add}
 use Rattle.ossl_aes.proofs.Words.{bytes-xor, four_fit}
 use Rattle.ossl_aes.proofs.Lists.{rest_of}

@@ -3,7 +3,7 @@ use Rattle.std.proofs.Common.{◌≡◌, ℕ, List, [], ◌∷◌, ◌++◌, sli
 use Rattle.std.specs.Int.{w32, to_be_bytes}
 use Rattle.ossl_aes.specs.Field.{sub, unsub}
 use Rattle.ossl_aes.specs.Cipher.{add, column}
-use Rattle.ossl_aes.specs.State.{state_of, round, inv_round, last_round, last_inv_round}
+use Rattle.ossl_aes.specs.Rounds.{state_of, round, inv_round, last_round, last_inv_round}
 use Rattle.ossl_aes.proofs.Words.{bytes-xor}
 
 abbrev pub bytes_at : List ℕ → ℕ → List ℕ

@@ -1,12 +1,12 @@
 -- The tables hold what the field gives, at each of the 256 bytes.
-use Rattle.std.proofs.Common.{◌≡◌, ℕ, zero, suc, ◌+◌, ◌*◌, ◌<◌, List, [], ◌∷◌, refl, sym, ap, ◌∙◌, slice_index, get_or, map, take, drop, arith, length}
+use Rattle.std.proofs.Common.{◌≡◌, ℕ, zero, suc, ◌+◌, ◌-◌, ◌*◌, ◌<◌, List, [], ◌∷◌, refl, sym, ap, ◌∙◌, slice_index, get_or, map, take, drop, arith, length}
 use Rattle.std.specs.List.{range_with_len}
 use Rattle.std.specs.Int.{w32, to_be_bytes}
 use Rattle.std.proofs.lemmas.List.{get_or-map, get_or-take, get_or-drop}
 use Rattle.std.proofs.lemmas.List.FromFn.{get_or-map-range_with_len}
 use Rattle.ossl_aes.specs.declared.tables.TheConstants.{SUB, UNSUB, SUB_WORDS, UNSUB_WORDS, ENC, DEC, ROUND_CONSTANTS}
 use Rattle.ossl_aes.specs.Cipher.{scaled, enc_word, dec_word}
-use Rattle.ossl_aes.specs.Field.{sub, unsub, times, power, mul}
+use Rattle.ossl_aes.specs.Field.{sub, unsub, times, power, mul, inverse, inv_affine}
 
 -- an entry of a table of a function's values
 tabled : {X : Type 0} (t : List X) (f : ℕ → X) (d : X) (n : ℕ) → t ≡ map f (range_with_len 0 n) → (b : ℕ) → b < n → get_or t b d ≡ f b
@@ -180,3 +180,25 @@ unsub2_bytes b h = bytes_in UNSUB_WORDS UNSUB 512 refl placed_2 refl refl b h �
 
 pub unsub3_bytes : (b : ℕ) → b < 256 → to_be_bytes w32 (slice_index UNSUB_WORDS (768 + b)) ≡ placed_3 (unsub b)
 unsub3_bytes b h = bytes_in UNSUB_WORDS UNSUB 768 refl placed_3 refl refl b h ∙ ap placed_3 (unsub_at b h)
+
+inverse_table : map (λ b. inv_affine (sub b)) (range_with_len 0 256) ≡ map inverse (range_with_len 0 256)
+unfolding sub times power
+inverse_table = refl
+
+-- the S-box's inverse map brings a byte's image to the byte's inverse
+pub inverse_at : (b : ℕ) → b < 256 → inv_affine (sub b) ≡ inverse b
+inverse_at b h =
+    sym (get_or-map-range_with_len (λ c. inv_affine (sub c)) 0 256 b b 0 h (omega arith))
+    ∙ tabled (map (λ c. inv_affine (sub c)) (range_with_len 0 256)) inverse 0 256 inverse_table b h
+
+products_table : map (λ n. mul (n + 1) (inverse (n + 1))) (range_with_len 0 255) ≡ map (λ n. 1) (range_with_len 0 255)
+unfolding times power
+products_table = refl
+
+-- a byte times its inverse is one, computed for each of the 255 that have one
+pub product_at : (b : ℕ) → 0 < b → b < 256 → mul b (inverse b) ≡ 1
+product_at b some h =
+    let back : b - 1 + 1 ≡ b = omega arith in
+    ap (λ (c : ℕ). mul c (inverse c)) (sym back)
+    ∙ sym (get_or-map-range_with_len (λ n. mul (n + 1) (inverse (n + 1))) 0 255 (b - 1) (b - 1) 0 (omega arith) (omega arith))
+    ∙ tabled (map (λ n. mul (n + 1) (inverse (n + 1))) (range_with_len 0 255)) (λ n. 1) 0 255 products_table (b - 1) (omega arith)

@@ -3,12 +3,8 @@
 use Rattle.std.specs.Prelude.{ℕ, zero, suc, ◌+◌, ◌-◌, ◌*◌, ◌/◌, ◌%◌, ◌^◌, List, [], ◌∷◌, ◌++◌, length, map, nat_eq, ◌&&◌, bit_xor, slice_index, if◌then◌else◌}
 use Rattle.std.specs.Int.{w32, rotate_left, from_be_bytes, to_be_bytes}
 use Rattle.ossl_aes.specs.Field.{mul, power, sub, unsub}
-
 -- the sum of two texts byte by byte, as long as the shorter one (FIPS 197, 4.1 and 5.1.4)
-unfoldable pub add : List ℕ → List ℕ → List ℕ
-add [] _ = []
-add _ [] = []
-add (x ∷ xs) (y ∷ ys) = bit_xor x y ∷ add xs ys
+unfoldable pub use Rattle.ossl_blocks.specs.Xor.{xored as add}
 
 -- row r moves left by r places (FIPS 197, 5.1.2)
 abbrev pub shift_rows : List ℕ → List ℕ

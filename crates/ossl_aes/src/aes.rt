@@ -2,7 +2,8 @@
 
 ghost use Rattle.std.specs.Prelude.{◌≡◌, ℕ, ◌+◌, ◌*◌, ◌≤◌, List, [], ◌∷◌, length, slice_index};
 ghost use Rattle.ossl_aes.specs.Cipher.{schedule, cipher, inv_cipher};
-ghost use Rattle.ossl_aes.specs.State.{IsSize, AreInvMixed};
+ghost use Rattle.ossl_aes.specs.Rounds.{AreInvMixed};
+ghost use Rattle.ossl_aes.specs.State.{IsSize};
 
 use crate::block::Block;
 use crate::columns::{add, load, store, word};

@@ -6,6 +6,7 @@
 mod aes;
 mod block;
 mod columns;
+mod field;
 mod inverse;
 #[cfg(test)]
 mod plain;
@@ -18,5 +19,6 @@ mod tests;
 pub use aes::Aes;
 pub use block::Block;
 pub use columns::{number_block, xor_blocks};
+pub use field::field_inverse;
 pub use inverse::there_and_back;
 pub use rounds::{dec_word, enc_word, sub, unsub};

@@ -5,7 +5,7 @@ ghost use Rattle.std.specs.Prelude.{◌≡◌, ◌<◌, List, [], ◌∷◌};
 ghost use Rattle.std.specs.Int.{w32, to_be_bytes};
 ghost use Rattle.ossl_aes.specs.Field.{sub, unsub};
 ghost use Rattle.ossl_aes.specs.Cipher.{column, enc_word, dec_word};
-ghost use Rattle.ossl_aes.specs.State.{state_of, round, last_round, inv_round, last_inv_round};
+ghost use Rattle.ossl_aes.specs.Rounds.{state_of, round, last_round, inv_round, last_inv_round};
 
 use crate::tables::{DEC, ENC, SUB, SUB_WORDS, UNSUB, UNSUB_WORDS};
 

@@ -3,7 +3,7 @@
 ghost use Rattle.std.specs.Prelude.{◌≡◌, ◌/◌, ◌<◌, ◌≤◌};
 ghost use Rattle.std.specs.Int.{w32, to_be_bytes};
 ghost use Rattle.ossl_aes.specs.Cipher.{sub_word, temp_word};
-ghost use Rattle.ossl_aes.specs.State.{inv_mixed_column};
+ghost use Rattle.ossl_aes.specs.Rounds.{inv_mixed_column};
 
 use crate::rounds::{dec_column, sub};
 use crate::tables::ROUND_CONSTANTS;

@@ -2,7 +2,7 @@
 
 ghost use Rattle.std.specs.Prelude.{◌≡◌, ℕ, ◌+◌, ◌%◌, ◌<◌, ◌≤◌, List, [], ◌++◌, ◌^◌, length, take};
 ghost use Rattle.ossl_blocks.specs.Cut.{IsSize, IsCut, whole_len};
-ghost use Rattle.ossl_blocks.specs.Held.{held_of};
+ghost use Rattle.ossl_blocks.specs.Held.{held_of, IsFed};
 
 use crate::state::Buffer;
 use crate::taker::BlockTaker;
@@ -77,7 +77,7 @@ impl<const SIZE: usize, const KEPT: usize> Buffer<SIZE, KEPT> {
         requires enough { SIZE + KEPT ≤ self.old.count + length bytes.now }
         requires begun { self.old.count ≤ SIZE }
         requires room { T.has_room out.old (whole_len SIZE KEPT (length (held_of self.old) + length bytes.now)) }
-        ensures { (done : List ℕ) × IsCut SIZE KEPT (held_of self.old ++ bytes.now) done (held_of self.new) × T.taken taker.old out.old done taker.new out.new }
+        ensures { IsFed self.old bytes.now self.new (λ done. T.taken taker.old out.old done taker.new out.new) }
     {
         let (front, rest) = bytes.split_at(SIZE - self.count);
         let held = &mut self.held[..];
@@ -92,7 +92,7 @@ impl<const SIZE: usize, const KEPT: usize> Buffer<SIZE, KEPT> {
     /// of the piece itself, in one call. No call is made where there are none.
     pub fn feed<T: BlockTaker<SIZE>>(&mut self, bytes: &[u8], taker: &mut T, out: &mut T::Out)
         requires room { T.has_room out.old (whole_len SIZE KEPT (length (held_of self.old) + length bytes.now)) }
-        ensures { (done : List ℕ) × IsCut SIZE KEPT (held_of self.old ++ bytes.now) done (held_of self.new) × T.taken taker.old out.old done taker.new out.new }
+        ensures { IsFed self.old bytes.now self.new (λ done. T.taken taker.old out.old done taker.new out.new) }
     {
         if bytes.len() < SIZE - self.count + KEPT {
             self.hold(bytes);

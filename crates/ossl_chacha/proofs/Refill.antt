@@ -8,7 +8,8 @@ use Rattle.std.proofs.lemmas.List.FromFn.{map-range_with_len_more, fill_by_all}
 use Rattle.rand_core.specs.Steps.{word_bytes, first_bytes, fill_via_u32, u32_at}
 use Rattle.rand_chacha.specs.ChaCha.{ChaCha, word_at, next_word}
 use Rattle.ossl_chacha.specs.Block.{block_words}
-use Rattle.ossl_chacha.specs.KeyStream.{GivesKeyStream, generator_at, block_at, blocks_of, words, counter_of, stream_len, IsInStep}
+use Rattle.ossl_chacha.specs.KeyStream.{block_at, blocks_of, words, counter_of, stream_len}
+use Rattle.ossl_chacha.specs.Generator.{GivesKeyStream, generator_at, IsInStep}
 use Rattle.ossl_chacha.proofs.Rounds.{length-block_words}
 
 -- word j after the generator's place

@@ -4,7 +4,7 @@ use Rattle.std.specs.List.{range_with_len}
 use Rattle.std.proofs.lemmas.List.{drop_all}
 use Rattle.rand_chacha.specs.Block.{quarter_round as quarter_words, column_round as columns_of, diagonal_round as diagonals_of, double_rounds, block_word, initial_state as state_of}
 use Rattle.rand_core.specs.Steps.{u32_at}
-use Rattle.ossl_chacha.specs.KeyStream.{GivesKeyStream, generator_at}
+use Rattle.ossl_chacha.specs.Generator.{GivesKeyStream, generator_at}
 use Rattle.ossl_chacha.specs.Block.{quarter_round, column_round, diagonal_round, inner_blocks, initial_state, added, block_words}
 
 -- a column round of sixteen words

@@ -3,8 +3,8 @@
 use Rattle.std.specs.Prelude.{ℕ, ◌+◌, ◌-◌, ◌*◌, ◌/◌, ◌%◌, ◌^◌, ◌≡◌, ◌<◌, ◌≤◌, Bool, false, List, [], ◌∷◌, map, take, slice_index, bit_xor}
 use Rattle.std.specs.List.{range_with_len}
 use Rattle.rand_core.specs.Steps.{u32_at}
-use Rattle.rand_chacha.specs.ChaCha.{ChaCha, key_of, word_at}
-use Rattle.ossl_chacha.specs.Block.{block, block_words}
+unfoldable pub use Rattle.ossl_blocks.specs.Xor.{xored}
+use Rattle.ossl_chacha.specs.Block.{block}
 
 -- n little-endian words of some bytes, from word i on
 abbrev pub words : List ℕ → ℕ → ℕ → List ℕ
@@ -30,11 +30,6 @@ block_at key iv n = block (words key 0 8) (counter_of iv + n) (words iv 1 3)
 abbrev pub key_byte : List ℕ → List ℕ → ℕ → ℕ
 key_byte key iv place = slice_index (block_at key iv (place / 64)) (place % 64)
 
--- two lists of bytes xored, as far as both reach
-unfoldable pub xored : List ℕ → List ℕ → List ℕ
-xored (x ∷ xs) (y ∷ ys) = bit_xor x y ∷ xored xs ys
-xored _ _ = []
-
 -- bytes from a place of the message on, each xored with the byte of the key stream at its place
 unfoldable pub text_from : List ℕ → List ℕ → ℕ → List ℕ → List ℕ
 text_from key iv place [] = []
@@ -54,26 +49,3 @@ stream_of key iv = record { key = key; iv = iv; used = 0; is_over = false }
 -- the text that a stream gives of these bytes: as many of them as the key stream has left, xored with it
 abbrev pub text_of : ChaChaState → List ℕ → List ℕ
 text_of state bytes = text_from state.key state.iv state.used (take (stream_len state.iv - state.used) bytes)
-
--- the generator whose next words are block n: the IV's first two words are its 64-bit counter, the last two its stream,
--- each low word first; 16 words a block
-abbrev pub generator_at : List ℕ → List ℕ → ℕ → ChaCha
-generator_at key iv n = record {
-  key = key_of key;
-  stream = u32_at iv 2 + u32_at iv 3 * 2 ^ 32;
-  word_pos = 16 * (counter_of iv + n + u32_at iv 1 * 2 ^ 32) % 2 ^ 68;
-}
-
--- each word of each block is the word that a generator gives at its place, which is before the generator's stream repeats
-abbrev pub GivesKeyStream : List ℕ → List ℕ → ChaCha → Type 0
-GivesKeyStream key iv generator = (n k : ℕ) → n < blocks_of iv → k < 16
-    → (generator.word_pos + 16 * n + k < 2 ^ 68)
-    × (slice_index (block_words (words key 0 8) (counter_of iv + n) (words iv 1 3)) k
-    ≡ word_at 10 generator.key generator.stream (generator.word_pos + 16 * n + k))
-
--- what keeps a stream's generator and its current block in step with the bytes used
-pub record IsInStep (key iv held : List ℕ) (used : ℕ) (generator : ChaCha) : Type 0 where
-  pub within : used ≤ stream_len iv
-  pub words_are : GivesKeyStream key iv (generator_at key iv 0)
-  pub place : generator ≡ generator_at key iv ((used + 63) / 64)
-  pub current : 0 < used % 64 → held ≡ block_at key iv (used / 64)

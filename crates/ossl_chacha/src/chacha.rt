@@ -33,7 +33,8 @@ pub struct ChaCha {
 }
 
 impl Model for ChaCha {
-    ghost use Rattle.ossl_chacha.specs.KeyStream.{ChaChaState, IsInStep};
+    ghost use Rattle.ossl_chacha.specs.KeyStream.{ChaChaState};
+    ghost use Rattle.ossl_chacha.specs.Generator.{IsInStep};
 
     ghost Value = { ChaChaState };
 

@@ -1,5 +1,5 @@
 ghost use Rattle.std.specs.Prelude.{◌≡◌};
-ghost use Rattle.ossl_chacha.specs.KeyStream.{GivesKeyStream, generator_at};
+ghost use Rattle.ossl_chacha.specs.Generator.{GivesKeyStream, generator_at};
 
 use rand_chacha::ChaCha20Rng;
 use rand_core::SeedableRng;

@@ -82,8 +82,8 @@ registers-twice (suc n) m (suc k) h xs ys len ek =
     ∙ sym (λ i. registers_after (compress h (first i)) k (rest i))
 
 -- the first bytes of the padding
-pub take_padding : (z : ℕ) → z ≤ 63 → take {A = ℕ} (z + 1) (0x80 ∷ replicate 63 0) ≡ 0x80 ∷ replicate z 0
-take_padding z h = rw (add-one, take-replicate {X = ℕ} z 63 0 h) refl
+pub take_padding : (z : ℕ) → z ≤ 71 → take {A = ℕ} (z + 1) (0x80 ∷ replicate 71 0) ≡ 0x80 ∷ replicate z 0
+take_padding z h = rw (add-one, take-replicate {X = ℕ} z 71 0 h) refl
 
 -- the padding of a message whose length is known modulo 2 ^ 64
 pub padding_same : (n m : ℕ) → n ≡ m % 2 ^ 64 → padding n ≡ padding m
@@ -92,22 +92,22 @@ padding_same n m e =
     let bits : n * 8 % 2 ^ 64 ≡ m * 8 % 2 ^ 64 = omega arith in
     rw (place, bits) refl
 
--- a state s that takes its padding in two parts, and is then z, gives the digest of z's registers
-pub finished : (s a z : Md4) (front bits d : List ℕ) (used : ℕ)
-    → ((p : List ℕ) → digest_with s (front ++ p) ≡ digest_with a p) → ((p : List ℕ) → digest_with a (bits ++ p) ≡ digest_with z p)
-    → a.total ≡ (s.total + length front) % 2 ^ 64 → z.total ≡ (a.total + length bits) % 2 ^ 64 → used ≡ length (held_of s.buffer)
-    → front ≡ 0x80 ∷ replicate ((119 - used) % 64) 0 → bits ≡ to_le_bytes w64 (s.total * 8 % 2 ^ 64)
+-- a state s that takes its padding, and is then z, gives the digest of z's registers
+pub finished : (s z : Md4) (given bits d : List ℕ) (used front : ℕ)
+    → ((p : List ℕ) → digest_with s (given ++ p) ≡ digest_with z p) → z.total ≡ (s.total + length given) % 2 ^ 64
+    → used ≡ length (held_of s.buffer) → front ≡ (119 - used) % 64 + 1
+    → given ≡ 0x80 ∷ replicate (front - 1) 0 ++ bits → bits ≡ to_le_bytes w64 (s.total * 8 % 2 ^ 64)
     → d ≡ output z.registers.0 → d ≡ digest_with s (padding s.total)
-finished s a z front bits d used first second counted counted_more eu is_front is_bits is_output =
-    let place : used ≡ s.total % 64 = eu ∙ s.in_step in
-    let zeros : ℕ = (119 - used) % 64 in
-    let size : length front ≡ suc (length (replicate {A = ℕ} zeros 0)) = ap length is_front in
+finished s z given bits d used front gives counted eu ef is_given is_bits is_output =
+    let place : front - 1 ≡ (119 - s.total % 64) % 64 = omega (arith, eu, ef, s.in_step) in
+    let size : length given ≡ suc (length (replicate {A = ℕ} (front - 1) 0 ++ bits)) = ap length is_given in
     let eight : length bits ≡ 8 = ap length is_bits in
-    let none : held_of z.buffer ≡ [] = no_elements (held_of z.buffer) (omega (arith, z.in_step, length-replicate {A = ℕ} zeros 0)) in
+    let more = length-append (replicate {A = ℕ} (front - 1) 0) bits in
+    let none : held_of z.buffer ≡ [] =
+    no_elements (held_of z.buffer) (omega (arith, z.in_step, length-replicate {A = ℕ} (front - 1) 0)) in
     let empty : digest_with z [] ≡ digest_from z.registers.0 [] = ap (λ (x : List ℕ). digest_from z.registers.0 (x ++ [])) none in
-    let given : digest_with s (front ++ bits) ≡ digest_with z [] = first bits ∙ ap (digest_with a) (sym (append-nil bits)) ∙ second [] in
-    let all : front ++ bits ≡ padding s.total = rw (is_front, is_bits, place) refl in
-    is_output ∙ sym (digest_from-nil z.registers.0) ∙ sym empty ∙ sym given ∙ ap (digest_with s) all
+    let all : given ≡ padding s.total = rw (is_given, is_bits, place) refl in
+    is_output ∙ sym (digest_from-nil z.registers.0) ∙ sym empty ∙ sym (gives []) ∙ ap (digest_with s) (append-nil given ∙ all)
 
 -- the digest that a state which holds m gives with its own padding
 pub digest_of_held : (s : Md4) (m d : List ℕ) → HoldsMd4 s m → d ≡ digest_with s (padding s.total) → d ≡ md4 m

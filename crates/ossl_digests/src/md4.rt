@@ -1,6 +1,6 @@
 //! MD4 (RFC 1320).
 
-ghost use Rattle.std.specs.Prelude.{◌≡◌, ℕ, ◌+◌, ◌-◌, ◌*◌, ◌/◌, ◌%◌, ◌^◌, ◌<◌, List, ◌∷◌, ◌++◌, length, replicate};
+ghost use Rattle.std.specs.Prelude.{◌≡◌, ℕ, ◌+◌, ◌-◌, ◌*◌, ◌/◌, ◌%◌, ◌^◌, ◌<◌, ◌≤◌, List, ◌∷◌, ◌++◌, length, take, replicate};
 ghost use Rattle.ossl_digests.specs.Md4.{digest_from, initial_registers, registers_after, padding, output};
 
 use crate::rounds::compress;
@@ -9,19 +9,31 @@ use ossl_blocks::{BlockTaker, Buffer};
 
 const BLOCK_LEN: usize = 64;
 
-// The padding's first bytes: a bit 1, then zeros (RFC 1320, 3.1).
-const PADDING: [u8; 64] = [
+// The padding's first bytes: a bit 1, then zeros (RFC 1320, 3.1). With the length after them it has 9 to 72 bytes.
+const PADDING: [u8; 72] = [
     0x80, 0, 0, 0, 0, 0, 0, 0, 0, 0, 0, 0, 0, 0, 0, 0, 0, 0, 0, 0, 0, 0, 0, 0, 0, 0, 0, 0, 0, 0, 0,
     0, 0, 0, 0, 0, 0, 0, 0, 0, 0, 0, 0, 0, 0, 0, 0, 0, 0, 0, 0, 0, 0, 0, 0, 0, 0, 0, 0, 0, 0, 0, 0,
-    0,
+    0, 0, 0, 0, 0, 0, 0, 0, 0,
 ];
 
-// The padding up to the length field, where the last block has `used` bytes of the message.
-fn padding_front(used: usize) -> &'static [u8]
+// The bytes of the padding up to the length field, where the last block has `used` bytes of the message.
+fn front_len(used: usize) -> usize
     requires { used < 64 }
-    ensures { result.now ≡ 0x80 ∷ replicate ((119 - used) % 64) 0 }
+    ensures value { result ≡ (119 - used) % 64 + 1 }
+    ensures within { result ≤ 64 }
 {
-    &PADDING[..(119 - used) % 64 + 1]
+    (119 - used) % 64 + 1
+}
+
+// The padding, with the length in bits as its last bytes, and zeros after it.
+fn padding_with(front: usize, bits: [u8; 8]) -> [u8; 72]
+    requires some { 0 < front }
+    requires within { front ≤ 64 }
+    ensures { take (front + 8) result ≡ 0x80 ∷ replicate (front - 1) 0 ++ bits }
+{
+    let mut padding = PADDING;
+    padding[front..front + 8].copy_from_slice(&bits);
+    padding
 }
 
 // Takes whole blocks into the registers.
@@ -81,9 +93,9 @@ impl Md4 {
         ensures { result ≡ digest_with self (padding self.total) }
     {
         let bits = self.total.wrapping_mul(8).to_le_bytes();
-        let used = self.buffer.len();
-        self.feed(padding_front(used));
-        self.feed(&bits);
+        let front = front_len(self.buffer.len());
+        let padding = padding_with(front, bits);
+        self.feed(&padding[..front + 8]);
         output(&self.registers.0)
     }
 }

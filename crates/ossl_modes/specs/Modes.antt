@@ -50,10 +50,19 @@ before t (Err r) = Err r
 abbrev pub padded : List ℕ → List ℕ
 padded bs = bs ++ replicate (16 - length bs % 16) (16 - length bs % 16)
 
--- the last block without its padding: its last byte n is 1 to 16, and so are its last n bytes n (RFC 5652, 6.3)
+-- how many bytes of the last block are no padding: its last byte n is 1 to 16, and so are its last n bytes n (RFC 5652, 6.3)
+abbrev pub unpadded_len : List ℕ → Result ℕ FinishRefused
+unpadded_len b = let n = slice_index b 15 in
+    if nat_le 1 n && nat_le n 16 && list_all (λ x. nat_eq x n) (drop (16 - n) b) then Ok (16 - n) else Err BadDecrypt
+
+-- so many bytes of a text, or the refusal
+abbrev pub front_of : List ℕ → Result ℕ FinishRefused → Result (List ℕ) FinishRefused
+front_of b (Ok n) = Ok (take n b)
+front_of b (Err r) = Err r
+
+-- the last block without its padding
 abbrev pub unpadded : List ℕ → Result (List ℕ) FinishRefused
-unpadded b = let n = slice_index b 15 in
-    if nat_le 1 n && nat_le n 16 && list_all (λ x. nat_eq x n) (drop (16 - n) b) then Ok (take (16 - n) b) else Err BadDecrypt
+unpadded b = front_of b (unpadded_len b)
 
 module _ (e d : List ℕ → List ℕ) (kind : ModeKind) (decrypt : Bool) where
   -- what the first n blocks become

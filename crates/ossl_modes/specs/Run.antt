@@ -1,10 +1,9 @@
 -- A text on its way through a mode: what the mode gives yet, and how a run ends.
-use Rattle.std.specs.Prelude.{ℕ, ◌-◌, ◌/◌, ◌≡◌, List, ◌++◌, length, drop, nat_le, nat_eq, ◌&&◌, slice_index, if◌then◌else◌, Result, Ok, Err}
-use Rattle.std.specs.List.{list_all}
+use Rattle.std.specs.Prelude.{ℕ, ◌/◌, ◌≡◌, List, ◌++◌, length, Result, Ok, Err}
 use Rattle.ossl_aes.specs.declared.block.Block.{Ghosts}
 use Rattle.ossl_blocks.specs.Held.{held_of}
 use Rattle.ossl_modes.specs.declared.kinds.FinishRefused.{FinishRefused}
-use Rattle.ossl_modes.specs.declared.kinds.FinishRefused.TheVariants.{BadDecrypt, NoMemory}
+use Rattle.ossl_modes.specs.declared.kinds.FinishRefused.TheVariants.{NoMemory}
 use Rattle.ossl_modes.specs.declared.state.BlockMode.{BlockMode}
 use Rattle.ossl_modes.specs.declared.state.Mode.{Mode}
 use Rattle.ossl_modes.specs.Modes.{before, blocks, value_after, equations, outcome, whole_blocks}
@@ -43,8 +42,3 @@ abbrev pub RunsTo : {U : Type 0} → List ℕ → List ℕ → Result U FinishRe
 RunsTo old new (Ok _) o w = before old o ≡ Ok new
 RunsTo old new (Err NoMemory) o w = IsBeginning old new w
 RunsTo old new (Err r) o w = (o ≡ Err r) × IsBeginning old new w
-
--- how many bytes of a last block are no padding
-abbrev pub unpadded_len : List ℕ → Result ℕ FinishRefused
-unpadded_len b = let n = slice_index b 15 in
-    if nat_le 1 n && nat_le n 16 && list_all (λ x. nat_eq x n) (drop (16 - n) b) then Ok (16 - n) else Err BadDecrypt

@@ -2,7 +2,7 @@
 
 ghost use Rattle.std.specs.Prelude.{◌≡◌, ◌-◌, ◌<◌, ◌≤◌, ◌++◌, length, take, drop, replicate, nat_eq, MatchOption};
 ghost use Rattle.std.specs.List.{list_all};
-ghost use Rattle.ossl_modes.specs.Run.{unpadded_len};
+ghost use Rattle.ossl_modes.specs.Modes.{unpadded_len};
 
 use crate::kinds::FinishRefused;
 

@@ -5,3 +5,5 @@ pub mod Values
 pub mod Bytes
 pub mod Fed
 pub mod Streams
+pub mod FedLaws
+pub mod StreamLaws

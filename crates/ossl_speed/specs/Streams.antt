@@ -1,7 +1,5 @@
 -- The texts of the stream ciphers and of modes, and how a cipher stands after some bytes, by the text yet to come.
-use Rattle.std.specs.Prelude.{◌≡◌, ℕ, List, [], ◌++◌}
-use Rattle.std.proofs.Common.{refl, ap, ◌∙◌}
-use Rattle.std.proofs.lemmas.List.{append_assoc}
+use Rattle.std.specs.Prelude.{◌≡◌, ℕ, List, ◌++◌}
 use Rattle.ossl_chacha.specs.KeyStream.{ChaChaState, text_of}
 use Rattle.ossl_legacy.specs.Rc4State.{Rc4State}
 use Rattle.ossl_legacy.specs.Rc4State as R
@@ -26,10 +24,3 @@ text_of_mode mode bytes = text_or (outcome_of mode bytes) (whole_blocks_of mode 
 -- with the bytes x put in front of whatever comes yet, the text before, given and yet to come, ends as the text after
 abbrev pub IsSealingFed : (List ℕ → List ℕ) → List ℕ → List ℕ → (List ℕ → List ℕ) → List ℕ → Type 0
 IsSealingFed before out x after new = (rest : List ℕ) → last 64 (out ++ before (x ++ rest)) ≡ last 64 (new ++ after rest)
-
-pub sealing-nothing : (before : List ℕ → List ℕ) (out : List ℕ) → IsSealingFed before out [] before out
-sealing-nothing before out rest = refl
-
-pub sealing-joined : (f g h : List ℕ → List ℕ) (a b c x y : List ℕ) → IsSealingFed f a x g b → IsSealingFed g b y h c → IsSealingFed f a (x ++ y) h c
-sealing-joined f g h a b c x y one two rest =
-    ap (λ (t : List ℕ). last 64 (a ++ f t)) (append_assoc x y rest) ∙ one (y ++ rest) ∙ two rest

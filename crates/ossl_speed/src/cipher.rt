@@ -85,7 +85,8 @@ struct Sealing<C> {
 }
 
 impl<C: Cipher> Intake for Sealing<C> {
-    ghost use Rattle.ossl_speed.specs.Streams.{IsSealingFed, sealing-nothing, sealing-joined};
+    ghost use Rattle.ossl_speed.specs.Streams.{IsSealingFed};
+    ghost use Rattle.ossl_speed.specs.StreamLaws.{sealing-nothing, sealing-joined};
 
     ghost fed = { λ a x b. IsSealingFed (C.text a.cipher) a.out.items x (C.text b.cipher) b.out.items };
 

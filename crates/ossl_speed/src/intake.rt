@@ -40,7 +40,8 @@ pub fn take_message<I: Intake>(
 }
 
 impl Intake for Digester {
-    ghost use Rattle.ossl_speed.specs.Fed.{IsDigesterFed, digester-nothing, digester-joined};
+    ghost use Rattle.ossl_speed.specs.Fed.{IsDigesterFed};
+    ghost use Rattle.ossl_speed.specs.FedLaws.{digester-nothing, digester-joined};
 
     ghost fed = { IsDigesterFed };
 
@@ -56,7 +57,8 @@ impl Intake for Digester {
 }
 
 impl Intake for Hmac {
-    ghost use Rattle.ossl_speed.specs.Fed.{IsHmacFed, hmac-nothing, hmac-joined};
+    ghost use Rattle.ossl_speed.specs.Fed.{IsHmacFed};
+    ghost use Rattle.ossl_speed.specs.FedLaws.{hmac-nothing, hmac-joined};
 
     ghost fed = { IsHmacFed };
 
@@ -72,7 +74,8 @@ impl Intake for Hmac {
 }
 
 impl<C: Block> Intake for Cmac<C> {
-    ghost use Rattle.ossl_speed.specs.Fed.{IsCmacFed, cmac-nothing, cmac-joined};
+    ghost use Rattle.ossl_speed.specs.Fed.{IsCmacFed};
+    ghost use Rattle.ossl_speed.specs.FedLaws.{cmac-nothing, cmac-joined};
 
     ghost fed = { λ a x b. IsCmacFed a x b };
 
@@ -88,7 +91,8 @@ impl<C: Block> Intake for Cmac<C> {
 }
 
 impl Intake for Vec<u8> {
-    ghost use Rattle.ossl_speed.specs.Fed.{IsAppended, appended-nothing, appended-joined};
+    ghost use Rattle.ossl_speed.specs.Fed.{IsAppended};
+    ghost use Rattle.ossl_speed.specs.FedLaws.{appended-nothing, appended-joined};
 
     ghost fed = { λ a x b. IsAppended a.items x b.items };
 

@@ -1,7 +1,8 @@
 use Rattle.std.proofs.Common.{◌≡◌, ℕ, ◌+◌, ◌*◌, ◌%◌, ◌<◌, ◌^◌, List, subst, sym, ap, ◌∙◌, arith}
 use Rattle.rand_core.specs.Steps.{u32_at}
 use Rattle.rand_chacha.specs.ChaCha.{ChaCha, key_of}
-use Rattle.ossl_chacha.specs.KeyStream.{GivesKeyStream, generator_at, counter_of}
+use Rattle.ossl_chacha.specs.KeyStream.{counter_of}
+use Rattle.ossl_chacha.specs.Generator.{GivesKeyStream, generator_at}
 use Rattle.ossl_chacha.proofs.Rounds.{gives}
 use Rattle.ossl_chacha.proofs.generator.generator_of.Goals as goal
 

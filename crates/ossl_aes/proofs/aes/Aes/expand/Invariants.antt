@@ -1,6 +1,6 @@
 use Rattle.std.proofs.Common.{◌≡◌, ◌-◌, length, take}
 use Rattle.ossl_aes.specs.Cipher.{key_words, schedule}
-use Rattle.ossl_aes.specs.State.{AreInvMixed}
+use Rattle.ossl_aes.specs.Rounds.{AreInvMixed}
 use Rattle.ossl_aes.proofs.aes.Aes.expand.Given as goal
 
 abbrev pub invariant-key : goal.invariant-key

@@ -1,6 +1,6 @@
 use Rattle.std.proofs.Common.{ℕ, List, ap, ◌+◌, ◌-◌, arith, ◌∙◌}
 use Rattle.ossl_aes.specs.Cipher.{add}
-use Rattle.ossl_aes.specs.State.{state_of, inv_round, last_inv_round}
+use Rattle.ossl_aes.specs.Rounds.{state_of, inv_round, last_inv_round}
 use Rattle.ossl_aes.proofs.BlockFacts.{inv_round_none, inv_round_more, inv_round_last, inv_mixed_key}
 use Rattle.ossl_aes.proofs.aes.AesBlock.decrypt.Goals as goal
 

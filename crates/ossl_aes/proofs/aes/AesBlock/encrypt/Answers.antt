@@ -1,6 +1,6 @@
 use Rattle.std.proofs.Common.{ℕ, List, ap, ◌+◌, arith, ◌∙◌}
 use Rattle.ossl_aes.specs.Cipher.{add}
-use Rattle.ossl_aes.specs.State.{state_of, round, last_round}
+use Rattle.ossl_aes.specs.Rounds.{state_of, round, last_round}
 use Rattle.ossl_aes.proofs.BlockFacts.{round_none, round_more, round_last}
 use Rattle.ossl_aes.proofs.aes.AesBlock.encrypt.Goals as goal
 

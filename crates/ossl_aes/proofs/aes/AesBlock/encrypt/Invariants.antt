@@ -1,6 +1,6 @@
 use Rattle.std.proofs.Common.{◌≡◌, ◌-◌}
 use Rattle.ossl_aes.specs.Cipher.{rounds}
-use Rattle.ossl_aes.specs.State.{state_of}
+use Rattle.ossl_aes.specs.Rounds.{state_of}
 use Rattle.ossl_aes.proofs.aes.AesBlock.encrypt.Given as goal
 
 abbrev pub invariant-round : goal.invariant-round

@@ -2,7 +2,8 @@ use Rattle.std.proofs.Common.{◌≡◌, ◌≤◌, ◌∙◌, ℕ, List, ◌+�
 use Rattle.std.proofs.lemmas.List.{length-take-le, take_rest}
 use Rattle.rand_core.specs.Steps.{fill_via_u32}
 use Rattle.rand_chacha.specs.ChaCha.{next_word}
-use Rattle.ossl_chacha.specs.KeyStream.{ChaChaState, blocks_of, generator_at, stream_len, text_from, xored}
+use Rattle.ossl_chacha.specs.KeyStream.{ChaChaState, blocks_of, stream_len, text_from, xored}
+use Rattle.ossl_chacha.specs.Generator.{generator_at}
 use Rattle.ossl_chacha.proofs.Refill.{blocks_at, drawn, in_step_drawn}
 use Rattle.ossl_chacha.proofs.Texts.{xored-blocks}
 use Rattle.ossl_chacha.proofs.chacha.ChaCha.crypt_drawn.Goals as goal

@@ -1,6 +1,7 @@
 use Rattle.std.proofs.Common.{◌≡◌, ◌≤◌, ◌<◌, ◌∙◌, ℕ, List, ◌+◌, ◌*◌, ◌-◌, ◌/◌, ◌%◌, ◌++◌, length, take, drop, sym, ap, subst, arith}
 use Rattle.std.proofs.lemmas.List.{take_all, length-take-le, length-drop}
-use Rattle.ossl_chacha.specs.KeyStream.{ChaChaState, block_at, generator_at, stream_len, text_from, xored}
+use Rattle.ossl_chacha.specs.KeyStream.{ChaChaState, block_at, stream_len, text_from, xored}
+use Rattle.ossl_chacha.specs.Generator.{generator_at}
 use Rattle.ossl_chacha.proofs.Refill.{in_step_after, length-block_at}
 use Rattle.ossl_chacha.proofs.Texts.{xored-block}
 use Rattle.ossl_chacha.proofs.chacha.ChaCha.crypt_held.Goals as goal
