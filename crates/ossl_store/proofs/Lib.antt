@@ -4,3 +4,4 @@ pub mod Ascending
 pub mod Picking
 pub mod Offers
 pub mod Choosing
+pub mod Greatest

@@ -3,3 +3,4 @@ pub mod Best
 pub mod Shelves
 pub mod Stored
 pub mod Choice
+pub mod Greatest

@@ -5,6 +5,7 @@ ghost use Rattle.std.specs.BTreeMap.{Updates, IsOrdered, IsUnchanged, insert_ent
 ghost use Rattle.std.specs.Ordering.{nat_cmp};
 ghost use Rattle.ossl_store.specs.Offering.{placed, without, has_instance, has_rank};
 ghost use Rattle.ossl_store.specs.Best.{best_offered, candidates};
+ghost use Rattle.ossl_store.specs.Greatest.{IsBest};
 ghost use Rattle.ossl_store.specs.Shelves.{IsClear, AreShelved, AreSame};
 
 use crate::choice::{Offer, Offers, best_of_runs, chosen};
@@ -94,6 +95,7 @@ impl Store {
         steps: &mut Steps<L>,
     ) -> Option<(u64, u64, Code)>
         ensures best { result ≡ best_offered op number query.now self.now }
+        ensures law { IsBest query.now (candidates op number self.now) result }
         ensures steps { steps.new ≤ steps.old + length query.now * length (candidates op number self.now) }
     {
         let runs = runs_at(&self.shelves, op, number)?;
