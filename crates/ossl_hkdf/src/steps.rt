@@ -43,9 +43,7 @@ fn copied(alloc: Global, bytes: &[u8]) -> Result<Vec<u8>, HkdfRefused>
 fn code_of(hash: Hash, key: &[u8], text: &[u8]) -> HashValue
     ensures { result ≡ hmac hash key.now text.now }
 {
-    let mut mac = Hmac::new(hash, key);
-    mac.feed(text);
-    mac.finish()
+    Hmac::new(hash, key).code_of(text)
 }
 
 // The expansion of a pseudorandom key (RFC 5869, 2.3).
