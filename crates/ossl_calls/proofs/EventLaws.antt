@@ -1,6 +1,6 @@
 -- What the type of the plain registry keeps, through each kind of entry.
-use Rattle.std.proofs.Common.{◌≡◌, ℕ, ◌+◌, ◌-◌, ◌^◌, ◌<◌, ◌≤◌, min, Bool, true, false, nat_eq, nat_lt, List, [], ◌∷◌, ◌++◌, length, map, refl, sym, ◌∙◌, ap, arith, suc, zero, add-zero, inl, inr}
-use Rattle.std.proofs.Math.ListN.{set}
+use Rattle.std.proofs.Common.{◌≡◌, ℕ, ◌+◌, ◌-◌, ◌^◌, ◌<◌, ◌≤◌, min, Bool, true, false, nat_eq, nat_lt, List, [], ◌∷◌, ◌++◌, length, map, refl, sym, ◌∙◌, ap, subst, arith, suc, zero, add-zero, inl, inr}
+use Rattle.std.proofs.Math.ListN.{set, length-set}
 use Rattle.std.specs.List.{list_all, filter, count_by}
 use Rattle.std.specs.Prelude.{if◌then◌else◌, slice_index}
 use Rattle.std.proofs.lemmas.Bool.{cases_Bool, cases_eq, and_parts, eq-eqb, ne_eqb, lt-ltb, ltb-true, both_ways}
@@ -21,8 +21,9 @@ use Rattle.ossl_state.specs.declared.state.State.{State}
 use Rattle.ossl_state.specs.Boxes.{sheet_of, facts_at, no_sheet, with_up}
 use Rattle.ossl_calls.specs.Events.{Keeps, Takes, Refuses, Bears}
 use Rattle.ossl_state.specs.Going.{without_going}
-use Rattle.ossl_state.specs.History.{Fixed, IsNext, state_after, says_refused, refusals}
+use Rattle.ossl_state.specs.History.{Fixed, IsNext, IsStep, state_after, says_refused, refusals}
 use Rattle.ossl_calls.specs.Kept.{IsKept}
+use Rattle.ossl_calls.specs.Started.{sheets_started}
 use Rattle.ossl_calls.specs.Registry.{sheet_at}
 use Rattle.ossl_state.specs.Sound.{IsSound, HasSoundInstances, number_of_born, lib_of_born}
 use Rattle.ossl_state.specs.State.{is_of_box, is_up, up_instances, up_at, starts_at}
@@ -163,6 +164,20 @@ module _ (fixed : Fixed) (sheets : List Sheet) (state : State) (entries : List (
             ];
       }
 
+  -- an entry by which the box at a place is started where it has to be, and which starts nothing otherwise
+  pub IsKept-started : (starts : Bool) (sheets' : List Sheet) (left : State) (k : ℕ) →
+      (starts ≡ true → (b : Born) × (b.place ≡ k) × Bears fixed.facts (state_after fixed entries) e left b) →
+      (starts ≡ false → Keeps fixed.facts (state_after fixed entries) e left) →
+      length fixed.facts ≡ length sheets → sheets' ≡ sheets_started starts sheets k state.next →
+      IsKept fixed sheets' (with_next left) (entries ++ e ∷ [])
+  IsKept-started true sheets' left k bears keeps same changed =
+      let b = (bears refl).0 in
+      let cause = (bears refl).2 in
+      let number : b.number ≡ state.next = cause.number ∙ ap (λ (s : State). s.next) (sym h.is_after) in
+      let is : sheets' ≡ set sheets b.place (after_start (sheet_of sheets b.place) b.number) = rw ((bears refl).1, number) changed in
+      IsKept-born sheets' left b cause same is (ap length changed ∙ length-set sheets k (after_start (sheet_of sheets k) state.next))
+  IsKept-started false sheets' left k bears keeps same changed = rw changed (IsKept-keeps left (keeps refl))
+
 -- so many distinct numbers below a bound are at most so many
 few_distinct : (m : ℕ) (xs : List ℕ) → is_distinct xs ≡ true → list_all (λ x. nat_lt x m) xs ≡ true → length xs ≤ m
 few_distinct zero [] d all = omega arith
@@ -224,3 +239,27 @@ kept-next fixed sheets state entries h = rw h.is_after (next-after fixed entries
 -- the place of a born instance, among the sheets
 pub placed : {P F S : Type 0} (facts : P → F) (sheet : P → S) (boxes : List P) (place k : ℕ) → k ≡ place → k < length (map facts boxes) → place < length (map sheet boxes)
 placed facts sheet boxes place k e h = simp length-map (rw e at (simp length-map at h))
+
+-- the same entries, over the state itself
+module _ (fixed : Fixed) (sheets : List Sheet) (s : State) (entries : List (Entry Call Reply)) (e : Entry Call Reply) (h : IsKept fixed sheets s entries) (step : IsStep fixed s entries e) where
+  next : IsNext fixed entries e
+  next = let P : State → Type 0 = λ t. IsStep fixed t entries e in subst P h.is_after step
+
+  pub kept-keeps : (left : State) → Keeps fixed.facts s e left → IsKept fixed sheets (with_next left) (entries ++ e ∷ [])
+  kept-keeps left keeps =
+      let P : State → Type 0 = λ t. Keeps fixed.facts t e left in
+      IsKept-keeps fixed sheets s entries e h next left (subst P h.is_after keeps)
+
+  pub kept-started : (starts : Bool) (sheets' : List Sheet) (left : State) (k : ℕ) →
+      (starts ≡ true → (b : Born) × (b.place ≡ k) × Bears fixed.facts s e left b) → (starts ≡ false → Keeps fixed.facts s e left) →
+      length fixed.facts ≡ length sheets → sheets' ≡ sheets_started starts sheets k s.next → IsKept fixed sheets' (with_next left) (entries ++ e ∷ [])
+  kept-started starts sheets' left k bears keeps same changed =
+      let P : State → Type 0 = λ t. (b : Born) × (b.place ≡ k) × Bears fixed.facts t e left b in
+      let Q : State → Type 0 = λ t. Keeps fixed.facts t e left in
+      IsKept-started fixed sheets s entries e h next starts sheets' left k (λ y. subst P h.is_after (bears y)) (λ n. subst Q h.is_after (keeps n)) same changed
+
+  pub kept-refused : (sheets' : List Sheet) (k : ℕ) → Refuses fixed.facts s e k → length fixed.facts ≡ length sheets → k < length sheets →
+      sheets' ≡ set sheets k (after_refusal (sheet_of sheets k)) → IsKept fixed sheets' (with_next s) (entries ++ e ∷ [])
+  kept-refused sheets' k cause same within changed =
+      let P : State → Type 0 = λ t. Refuses fixed.facts t e k in
+      IsKept-refused fixed sheets s entries e h next sheets' k (subst P h.is_after cause) same within changed (ap length changed ∙ length-set sheets k (after_refusal (sheet_of sheets k)))

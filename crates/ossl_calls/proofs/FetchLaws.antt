@@ -185,16 +185,21 @@ pub plain-next : (fixed : Fixed) (s : State) (past : List (Entry Call Reply)) (c
     IsStep fixed s past (record { caller = c; call = Fetch l op name query; reply = fetched_of fixed.facts s.next o })
 plain-next fixed s past c l op name query allowed is_open none o e = fetched-next fixed s past c l op name query allowed is_open o (rw none (sym e))
 
--- and that is answered a row
-pub plain-keeps : (fixed : Fixed) (s : State) (c l : ℕ) (op : Operation) (name : List ℕ) (query : List Clause) (chosen : Choice) → HasSoundInstances fixed s.next s → fallback_of fixed.facts (lib_at s l) ≡ None →
-    best_method s l op name query ≡ Some chosen →
-    Keeps fixed.facts s (record { caller = c; call = Fetch l op name query; reply = fetched_of fixed.facts s.next (Some chosen) }) (with_element s (new_method s.next c chosen))
-plain-keeps fixed s c l op name query chosen sound none e = record {
-  leaves = rw (none, e) refl;
-  no_refusal = λ n. refl;
-  born = refl;
-  up = up_instances-element s (new_method s.next c chosen) (method_up fixed s.next s l op name query chosen sound e);
-}
+-- and what it leaves
+pub plain-keeps : (fixed : Fixed) (s : State) (c l : ℕ) (op : Operation) (name : List ℕ) (query : List Clause) → HasSoundInstances fixed s.next s → fallback_of fixed.facts (lib_at s l) ≡ None →
+    let o = best_method s l op name query in
+    Keeps fixed.facts s (record { caller = c; call = Fetch l op name query; reply = fetched_of fixed.facts s.next o }) (with_method s c o)
+plain-keeps fixed s c l op name query sound none = of (best_method s l op name query) refl
+  where
+    of : (o : Option Choice) → best_method s l op name query ≡ o →
+        Keeps fixed.facts s (record { caller = c; call = Fetch l op name query; reply = fetched_of fixed.facts s.next o }) (with_method s c o)
+    of None e = record { leaves = rw none refl; no_refusal = λ n. refl; born = refl; up = refl }
+    of (Some chosen) e = record {
+      leaves = rw (none, e) refl;
+      no_refusal = λ n. refl;
+      born = refl;
+      up = up_instances-element s (new_method s.next c chosen) (method_up fixed s.next s l op name query chosen sound e);
+    }
 
 context-made : (facts : List Facts) (s : State) (c : ℕ) (inner : Option ℕ) (len : ℕ) (x : Live) (o : Option Live) → context_made facts s c inner len o ≡ Some x → (m : Live) × (o ≡ Some m) × (x ≡ new_context s c inner m)
 context-made facts s c inner len x None e = cc

@@ -31,3 +31,10 @@ up_at-without s (Element t) k = refl
 up_at-without s (Activation l t kept) k = refl
 up_at-without s Nothing k = refl
 up_at-without s (Library l) k = refl
+
+-- nothing that goes changes the number of the next entry
+pub going-next : (s : State) (going : Going) → (without_going s going).next ≡ s.next
+going-next s (Element t) = refl
+going-next s (Activation l t kept) = refl
+going-next s Nothing = refl
+going-next s (Library l) = refl

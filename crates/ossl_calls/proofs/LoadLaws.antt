@@ -3,6 +3,7 @@ use Rattle.std.proofs.Common.{◌≡◌, ℕ, ◌+◌, ◌<◌, ◌≤◌, Bool,
 use Rattle.std.specs.Prelude.{None, Some, IsTrue}
 use Rattle.std.specs.declared.option.Option.{Option}
 use Rattle.std.specs.Option.{option_map}
+use Rattle.std.proofs.lemmas.List.{get_or-set_same}
 use Rattle.ossl_base.specs.declared.entry.Entry.{Entry}
 use Rattle.ossl_provider.specs.Sheet.{Facts}
 use Rattle.ossl_state.specs.declared.call.Call.{Call}
@@ -17,42 +18,38 @@ use Rattle.ossl_calls.specs.Events.{Bears, Keeps, Refuses, Takes, unloading, unl
 use Rattle.ossl_state.specs.Going.{answer_of}
 use Rattle.ossl_state.specs.History.{Fixed, IsAllowed, IsStep}
 use Rattle.ossl_calls.specs.Registry.{are_apart}
-use Rattle.ossl_state.specs.Sound.{HasSoundInstances, giving_back}
-use Rattle.ossl_state.specs.State.{lib_at, up_instances, with_lib}
+use Rattle.ossl_state.specs.Sound.{HasSoundInstances}
+use Rattle.ossl_state.specs.State.{lib_at, no_lib}
 use Rattle.ossl_state.specs.Step.{activation_given, after_activation, after_load_of, element_of, holder_of, loaded_of, loaded_reply, needs_birth, new_instance, second_method, with_element}
 use Rattle.ossl_state.specs.Tokens.{entries_of}
 use Rattle.ossl_state.proofs.ChoiceLaws.{element_up}
 use Rattle.ossl_calls.proofs.FetchLaws.{activation-bears, activation-keeps, box-refuses, needs-none, needs-start, start-alone}
-use Rattle.ossl_state.proofs.HistoryLaws.{after_activation-live}
-use Rattle.ossl_calls.proofs.RoomLaws.{load-room}
-use Rattle.ossl_state.proofs.SoundLaws.{box_placed, holder_there, up_instances-element, up_instances-order}
+use Rattle.ossl_state.proofs.SoundLaws.{box_placed, holder_there, instances-activation, up_instances-element, up_instances-order}
 
 -- 1. A load of the box at a place.
 
-module _ (fixed : Fixed) (s : State) (past : List (Entry Call Reply)) (c l : ℕ) (name : List ℕ) (retain : Bool) (k : ℕ) (left : State)
-    (found : place_of name fixed.facts ≡ Some k) (sound : HasSoundInstances fixed s.next s) (within : l < fixed.contexts)
-    (left_is : left ≡ after_activation fixed.facts s l k) where
+module _ (fixed : Fixed) (s : State) (past : List (Entry Call Reply)) (c l : ℕ) (name : List ℕ) (retain : Bool) (k : ℕ)
+    (found : place_of name fixed.facts ≡ Some k) (sound : HasSoundInstances fixed s.next s) (within : l < fixed.contexts) where
+  abbrev active : State
+  active = after_activation fixed.facts s l k
+
   -- the state that the load leaves, but for the number of the next entry
-  abbrev pub loaded : State
-  loaded = with_lib left l (loaded_of retain (activation_given left c k) (lib_at left l))
+  abbrev loaded : State
+  loaded = after_load_of fixed.facts s c l retain k
 
-  loaded_is : loaded ≡ after_load_of fixed.facts s c l retain k
-  loaded_is = rw (left_is, (after_activation-live fixed.facts s l k).1) refl
-
-  abbrev pub load_entry : Reply → Entry Call Reply
+  abbrev load_entry : Reply → Entry Call Reply
   load_entry reply = record { caller = c; call = Load l name retain; reply = reply }
 
-  abbrev pub answered : Reply
-  answered = loaded_reply left left.next l k
+  abbrev answered : Reply
+  answered = loaded_reply loaded s.next l k
 
-  answer_is : answered ≡ loaded_reply (after_activation fixed.facts s l k) s.next l k
-  answer_is = rw (left_is, (after_activation-live fixed.facts s l k).1) refl
+  there : l < length active.libs
+  there =
+      let here : l < length s.libs = omega (arith, within, sound.contexts) in
+      omega (arith, within, (instances-activation fixed s l k here within (box_placed fixed.facts name k found) sound).contexts)
 
-  pub loaded-number : loaded.next ≡ s.next
-  loaded-number = rw left_is (after_activation-live fixed.facts s l k).1
-
-  pub loaded-room : giving_back loaded ≤ giving_back s + 1
-  loaded-room = omega (arith, ap giving_back loaded_is, load-room fixed.facts s c l retain k)
+  answer_is : answered ≡ loaded_reply active s.next l k
+  answer_is = rw (get_or-set_same active.libs l (loaded_of retain (activation_given s c k) (lib_at active l)) no_lib there) refl
 
   pub loaded-next : IsAllowed fixed (entries_of c past) (Load l name retain) → IsTrue (lib_at s l).is_open → IsStep fixed s past (load_entry answered)
   loaded-next allowed is_open = record { allowed = allowed; answers = (is_open, rw (found, answer_is) refl) }
@@ -61,15 +58,14 @@ module _ (fixed : Fixed) (s : State) (past : List (Entry Call Reply)) (c l : ℕ
   loaded-bears needs =
       let why = needs-start s l k needs in
       let b = new_instance fixed.facts s l k in
-      let P : State → Type 0 = λ a. (a.born ≡ s.born ++ b ∷ []) × (up_instances a ≡ up_instances s ++ b ∷ []) × (length a.libs ≡ length s.libs) in
-      let now = subst P (sym left_is) (activation-bears fixed s l sound within k why.0 why.1) in (
+      let now = activation-bears fixed s l sound within k why.0 why.1 in (
         b,
         refl,
         record {
-          leaves = rw (found, loaded_is) refl;
+          leaves = rw found refl;
           no_refusal = λ n. refl;
           born = now.0;
-          up = up_instances-order left l (loaded_of retain (activation_given left c k) (lib_at left l)) (omega (arith, within, sound.contexts, now.2)) refl ∙ now.1;
+          up = up_instances-order active l (loaded_of retain (activation_given s c k) (lib_at active l)) there refl ∙ now.1;
           number = refl;
           place = box_placed fixed.facts name k found;
         },
@@ -77,13 +73,12 @@ module _ (fixed : Fixed) (s : State) (past : List (Entry Call Reply)) (c l : ℕ
 
   pub loaded-keeps : needs_birth s l k ≡ false → Keeps fixed.facts s (load_entry answered) loaded
   loaded-keeps none =
-      let P : State → Type 0 = λ a. (a.born ≡ s.born) × (up_instances a ≡ up_instances s) × (length a.libs ≡ length s.libs) in
-      let now = subst P (sym left_is) (activation-keeps fixed s l sound within k (needs-none s l k none)) in
+      let now = activation-keeps fixed s l sound within k (needs-none s l k none) in
       record {
-        leaves = rw (found, loaded_is) refl;
+        leaves = rw found refl;
         no_refusal = λ n. refl;
         born = now.0;
-        up = up_instances-order left l (loaded_of retain (activation_given left c k) (lib_at left l)) (omega (arith, within, sound.contexts, now.2)) refl ∙ now.1;
+        up = up_instances-order active l (loaded_of retain (activation_given s c k) (lib_at active l)) there refl ∙ now.1;
       }
 
   -- a refused start is a step where the box has no instance up in that context

@@ -19,6 +19,11 @@ use Rattle.ossl_state.specs.declared.state.Kind.TheVariants.{Method, Context}
 use Rattle.ossl_state.specs.declared.state.LibCtx.{LibCtx}
 use Rattle.ossl_state.specs.declared.state.Live.{Live}
 use Rattle.ossl_state.specs.declared.state.State.{State}
+use Rattle.ossl_calls.specs.declared.change.Change.{Change}
+use Rattle.ossl_calls.specs.declared.change.Change.TheVariants.{Same, Queried, Added}
+use Rattle.ossl_state.specs.declared.state.Going.{Going}
+use Rattle.ossl_state.specs.declared.state.Going.TheVariants.{Element, Activation, Nothing, Library}
+use Rattle.ossl_calls.specs.Change.{changed}
 use Rattle.ossl_calls.specs.Events.{unloading_from}
 use Rattle.ossl_state.specs.Going.{answer_of, returned_by, without_going}
 use Rattle.ossl_state.specs.History.{Fixed}
@@ -123,3 +128,21 @@ free_ctx-room fixed s entries c t sound owned =
 pub open_count-fresh : (n : ℕ) → open_count (replicate n fresh_lib) ≤ n
 open_count-fresh zero = omega arith
 open_count-fresh (suc n) = omega (arith, open_count-fresh n, open_count-cons fresh_lib (replicate n fresh_lib))
+
+-- what an entry changes that starts and stops nothing takes one entry to be given back at most
+pub change-room : (s : State) (change : Change) → giving_back (changed s change) ≤ giving_back s + 1
+change-room s Same = omega arith
+change-room s (Queried l query) = omega (arith, default-room s l query)
+change-room s (Added made) = omega (arith, length_push s.live made)
+
+pub change-next : (s : State) (change : Change) → (changed s change).next ≡ s.next
+change-next s Same = refl
+change-next s (Queried l query) = refl
+change-next s (Added made) = refl
+
+-- what answers that something goes hands nothing out
+pub answer-lends : (going : Going) → lent_with (answer_of going) ≡ 0
+answer-lends (Element t) = refl
+answer-lends (Activation l t kept) = refl
+answer-lends Nothing = refl
+answer-lends (Library l) = refl

@@ -13,9 +13,19 @@ use Rattle.ossl_state.specs.declared.state.Live.{Live}
 use Rattle.ossl_state.specs.declared.state.State.{State}
 use Rattle.ossl_state.specs.Boxes.{facts_at}
 use Rattle.ossl_state.specs.Going.{IsThere, without_going}
-use Rattle.ossl_state.specs.History.{says_refused}
+use Rattle.ossl_calls.specs.Registry.{Shown, fixed_of}
+use Rattle.ossl_state.specs.History.{IsAllowed, says_refused}
 use Rattle.ossl_state.specs.State.{lib_at, up_instances}
+use Rattle.ossl_state.specs.Tokens.{entries_of}
 use Rattle.ossl_state.specs.Step.{left_by, holder_of, kept_of}
+
+-- a caller of a registry may make a call
+abbrev pub MayCall : {P : Type 0} → (P → Facts) → Shown P → ℕ → Call → Type 0
+MayCall facts r c call = IsAllowed (fixed_of facts r) (entries_of c r.entries) call
+
+-- one entry was appended: a call of a caller, and its reply
+abbrev pub Appends : {P : Type 0} → Shown P → Shown P → ℕ → Call → Reply → Type 0
+Appends old new c call reply = new.entries ≡ old.entries ++ record { caller = c; call = call; reply = reply } ∷ []
 
 -- what an entry leaves, but for the number of the next one
 abbrev pub left_by_entry : List Facts → State → Entry Call Reply → State

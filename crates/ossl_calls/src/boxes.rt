@@ -26,9 +26,11 @@ pub fn start_at<P: Provider>(boxes: &mut Vec<P>, place: usize, instance: u64) ->
     requires few { (sheet_of (map P.sheet boxes.old.items) place).starts < 2 ^ 64 - 1 }
     ensures facts { map P.facts boxes.new.items ≡ map P.facts boxes.old.items }
     ensures ok { OnOk result (
-        map P.sheet boxes.new.items ≡ slice_set (map P.sheet boxes.old.items) place (after_start (sheet_of (map P.sheet boxes.old.items) place) instance)) }
+        let sheets = map P.sheet boxes.old.items in
+        map P.sheet boxes.new.items ≡ slice_set sheets place (after_start (sheet_of sheets place) instance)) }
     ensures err { OnErr result (
-        map P.sheet boxes.new.items ≡ slice_set (map P.sheet boxes.old.items) place (after_refusal (sheet_of (map P.sheet boxes.old.items) place))) }
+        let sheets = map P.sheet boxes.old.items in
+        map P.sheet boxes.new.items ≡ slice_set sheets place (after_refusal (sheet_of sheets place))) }
 {
     boxes[place].start(instance)
 }
@@ -38,7 +40,8 @@ pub fn stop_at<P: Provider>(boxes: &mut Vec<P>, place: usize, instance: u64)
     requires place { place < vec_len boxes.old }
     requires up { IsTrue (is_in instance (sheet_of (map P.sheet boxes.old.items) place).up) }
     ensures facts { map P.facts boxes.new.items ≡ map P.facts boxes.old.items }
-    ensures sheets { map P.sheet boxes.new.items ≡ slice_set (map P.sheet boxes.old.items) place (after_stop (sheet_of (map P.sheet boxes.old.items) place) instance) }
+    ensures sheets { let sheets = map P.sheet boxes.old.items in
+        map P.sheet boxes.new.items ≡ slice_set sheets place (after_stop (sheet_of sheets place) instance) }
 {
     boxes[place].stop(instance);
 }

@@ -1,7 +1,8 @@
 ghost use Rattle.std.specs.Prelude.{◌≡◌, ◌≤◌, ◌<◌, ◌+◌, ◌-◌, ◌^◌, ◌++◌, ◌∷◌, [], OnOk, vec_len, vec_capacity};
 ghost use Rattle.ossl_state.specs.Sound.{open_count, giving_back, lent_with};
+ghost use Rattle.ossl_state.specs.Step.{with_next};
 
-use ossl_state::call::{Entry, Reply};
+use ossl_state::call::{Call, Entry, Reply};
 use ossl_state::state::{LibCtx, State};
 use std::alloc::AllocError;
 
@@ -31,17 +32,31 @@ fn lent_by_reply(reply: &Reply) -> usize
     }
 }
 
-/// Appends an entry to a history that has room, and counts the activation that it may hand out.
-pub fn append(history: &mut Vec<Entry>, lent: &mut usize, entry: Entry)
+/// Records an answered call in a history that has room: counts the activation that it may hand out, and the entry.
+pub fn record(
+    history: &mut Vec<Entry>,
+    lent: &mut usize,
+    state: &mut State,
+    caller: u64,
+    call: Call,
+    reply: Reply,
+)
     requires room { vec_len history.old < vec_capacity history.old }
     requires few { lent.old < 2 ^ 64 - 1 }
-    ensures items { history.new.items ≡ history.old.items ++ entry ∷ [] }
+    requires number { state.old.next < 2 ^ 64 - 1 }
+    ensures items { history.new.items ≡ history.old.items ++ record { caller = caller; call = call; reply = reply } ∷ [] }
     ensures len { vec_len history.new ≡ vec_len history.old + 1 }
     ensures capacity { vec_capacity history.new ≡ vec_capacity history.old }
-    ensures lent { lent.new ≡ lent.old + lent_with entry.reply }
+    ensures lent { lent.new ≡ lent.old + lent_with reply }
+    ensures state { state.new ≡ with_next state.old }
 {
-    *lent += lent_by_reply(&entry.reply);
-    history.push_reserved(entry);
+    *lent += lent_by_reply(&reply);
+    state.next += 1;
+    history.push_reserved(Entry {
+        caller,
+        call,
+        reply,
+    });
 }
 
 /// Makes room in a history for so many entries more, beside those by which all that a state holds is given back.

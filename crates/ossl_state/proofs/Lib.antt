@@ -7,5 +7,8 @@ pub mod HistoryLaws
 pub mod TokenLaws
 pub mod LegalLaws
 pub mod RowsLaws
+pub mod MarkLaws
+pub mod NextLaws
 pub mod WorkedRows
 pub mod WorkedLoads
+pub mod WorkedRules

@@ -25,16 +25,16 @@ apart m n differ same = let equal = eq-eqb m n same in cc
 
 -- Boxes of which each has one row of the same name, or none.
 
-abbrev row : TableRow
+abbrev pub row : TableRow
 row = record { names = codes "SHA2-256"; definition = []; code = Sha256 }
 
-abbrev named : List ℕ → List TableRow → Facts
+abbrev pub named : List ℕ → List TableRow → Facts
 named name rows = record { name = name; rows = rows; admits = λ code len. true }
 
 abbrev over : List Facts → List ℕ → Fixed
 over facts opened = record { facts = facts; contexts = 1; opened = opened }
 
-abbrev entry : ℕ → Call → Reply → Entry Call Reply
+abbrev pub entry : ℕ → Call → Reply → Entry Call Reply
 entry c call reply = record { caller = c; call = call; reply = reply }
 
 abbrev fetch : Call

@@ -9,3 +9,6 @@ pub mod History
 pub mod Sound
 pub mod Going
 pub mod Text
+pub mod Lends
+pub mod Mark
+pub mod Next

@@ -1,19 +1,20 @@
-ghost use Rattle.std.specs.Prelude.{◌≡◌, ◌<◌, length, map, position, slice_index_or, slice_set, IfOk, OnOk};
+ghost use Rattle.std.specs.Prelude.{◌≡◌, ◌<◌, length, map, position, slice_index_or, slice_set, IfOk, OnOk, OnErr};
 ghost use Rattle.std.specs.Str.{bytes_eq};
 ghost use Rattle.ossl_state.specs.Boxes.{place_of};
 ghost use Rattle.ossl_state.specs.Rows.{offered};
-ghost use Rattle.ossl_state.specs.State.{is_active_box, no_lib};
+ghost use Rattle.ossl_state.specs.Mark.{LeadsBack, with_started};
+ghost use Rattle.ossl_state.specs.State.{is_active_box, lib_at, no_lib};
 ghost use Rattle.ossl_state.specs.Step.{after_activation, fallback_of, grouped_of, held_instance, is_armed, joined_of, needs_birth, used_of, with_fallback_used};
 
-use crate::copies::copy_state;
 use crate::items::Items;
 use crate::lookup::{copy_groups, is_held_instance, order_of};
+use crate::mark::{Mark, mark_of};
 use crate::offer::offer_all;
-use crate::opening::fresh_lib;
 use crate::state::{Active, Born, Fallback, LibCtx, State};
 use ossl_names::NameMap;
 use ossl_provider::provider::Provider;
 use std::alloc::{AllocError, Global};
+use std::mem;
 
 fn is_active_place(order: &[Active], place: usize) -> bool
     ensures { result ≡ is_active_box place order.now }
@@ -43,11 +44,7 @@ pub fn needs_start(state: &State, lib: u64, place: usize) -> bool
 fn is_armed_fallback(fallback: Fallback) -> bool
     ensures { result ≡ is_armed fallback }
 {
-    match fallback {
-        Fallback::Armed => true,
-        Fallback::Off => false,
-        Fallback::Used => false,
-    }
+    matches!(fallback, Fallback::Armed)
 }
 
 fn has_name<P: Provider>(provider: &P, name: &[u8]) -> bool
@@ -114,101 +111,106 @@ fn new_instance<P: Provider>(
     Ok((born, offer.groups))
 }
 
-/// Puts other groups of names into a library context.
-fn set_groups(alloc: Global, libs: &mut Items<LibCtx>, lib: usize, groups: NameMap)
+/// Puts a provider and its instance at the end of a library context's order.
+fn join(libs: &mut Items<LibCtx>, lib: usize, place: usize, instance: u64) -> Result<(), AllocError>
     requires { lib < length libs.old }
-    ensures { libs.new ≡ slice_set libs.old lib (grouped_of (slice_index_or libs.old lib no_lib) groups) }
+    ensures ok { OnOk result (libs.new ≡ slice_set libs.old lib (joined_of (slice_index_or libs.old lib no_lib) place instance)) }
+    ensures err { OnErr result (libs.new ≡ libs.old) }
 {
-    let mut was = libs.replace(lib, fresh_lib(alloc));
-    was.groups = groups;
-    libs.set(lib, was);
+    libs.at_mut(lib).order.push(Active { place, instance })
 }
 
-/// Puts a provider and its instance at the end of a library context's order.
-fn join(
-    alloc: Global,
-    libs: &mut Items<LibCtx>,
-    lib: usize,
-    place: usize,
-    instance: u64,
-) -> Result<(), AllocError>
+/// Puts other groups of names into a library context, and hands out those that were there.
+fn replace_groups(libs: &mut Items<LibCtx>, lib: usize, groups: NameMap) -> NameMap
     requires { lib < length libs.old }
-    ensures { OnOk result (libs.new ≡ slice_set libs.old lib (joined_of (slice_index_or libs.old lib no_lib) place instance)) }
+    ensures before { result ≡ (slice_index_or libs.old lib no_lib).groups }
+    ensures after { libs.new ≡ slice_set libs.old lib (grouped_of (slice_index_or libs.old lib no_lib) groups) }
 {
-    let mut was = libs.replace(lib, fresh_lib(alloc));
-    was.order.push(Active { place, instance })?;
-    libs.set(lib, was);
-    Ok(())
+    mem::replace(&mut libs.at_mut(lib).groups, groups)
 }
 
 /// Marks the fallback of a library context as used.
-fn use_fallback(alloc: Global, libs: &mut Items<LibCtx>, lib: usize)
+pub fn use_fallback(libs: &mut Items<LibCtx>, lib: usize)
     requires { lib < length libs.old }
     ensures { libs.new ≡ slice_set libs.old lib (used_of (slice_index_or libs.old lib no_lib)) }
 {
-    let mut was = libs.replace(lib, fresh_lib(alloc));
-    was.fallback = Fallback::Used;
-    libs.set(lib, was);
+    libs.at_mut(lib).fallback = Fallback::Used;
 }
 
-/// Makes a provider active in a library context.
-fn activate<P: Provider>(
+/// Puts an instance that is started into a state, with the groups of names that it leaves, and hands out the groups that were there.
+fn bear(state: &mut State, instance: Born, groups: NameMap) -> Result<NameMap, AllocError>
+    requires { instance.lib < length state.old.libs }
+    ensures ok { OnOk result (state.new ≡ with_started state.old instance groups) }
+    ensures before { IfOk result (λ before. before ≡ (lib_at state.old instance.lib).groups) }
+    ensures err { OnErr result (state.new ≡ state.old) }
+{
+    let (lib, place, number) = (instance.lib as usize, instance.place, instance.number);
+    let born = state.born.len();
+    state.born.push(instance)?;
+    match join(&mut state.libs, lib, place, number) {
+        Ok(()) => Ok(replace_groups(&mut state.libs, lib, groups)),
+        Err(refused) => {
+            state.born.truncate(born);
+            Err(refused)
+        }
+    }
+}
+
+/// Makes a provider active in a library context, and tells by what that is taken back.
+pub fn activate<P: Provider>(
     alloc: Global,
     boxes: &[P],
     state: &mut State,
     lib: u64,
     place: usize,
-) -> Result<(), AllocError>
+) -> Result<Mark, AllocError>
     requires lib { lib < length state.old.libs }
     requires place { place < length boxes.now }
-    ensures { OnOk result (state.new ≡ after_activation (map P.facts boxes.now) state.old lib place) }
+    ensures ok { OnOk result (state.new ≡ after_activation (map P.facts boxes.now) state.old lib place) }
+    ensures mark { IfOk result (λ mark. LeadsBack mark lib state.old state.new) }
+    ensures err { OnErr result (state.new ≡ state.old) }
 {
+    let mut mark = mark_of(state, lib as usize);
     if is_active_place(order_of(state.libs.as_slice(), lib), place) {
-        return Ok(());
+        return Ok(mark);
     }
-    let number = state.next;
     match find_held(state, lib, place) {
-        Some(held) => join(alloc, &mut state.libs, lib as usize, place, held),
+        Some(held) => {
+            join(&mut state.libs, lib as usize, place, held)?;
+            Ok(mark)
+        }
         None => {
             let groups = copy_groups(alloc, state.libs.as_slice(), lib)?;
-            let (b, groups) = new_instance(alloc, &boxes[place], groups, number, lib, place)?;
-            set_groups(alloc, &mut state.libs, lib as usize, groups);
-            state.born.push(b)?;
-            join(alloc, &mut state.libs, lib as usize, place, number)
+            let number = state.next;
+            let (instance, groups) = new_instance(
+                alloc,
+                &boxes[place],
+                groups,
+                number,
+                lib,
+                place,
+            )?;
+            mark.groups = Some(bear(state, instance, groups)?);
+            Ok(mark)
         }
     }
 }
 
-/// The state once a provider has become active in a library context.
-pub fn activated<P: Provider>(
-    alloc: Global,
-    boxes: &[P],
-    state: &State,
-    lib: u64,
-    place: usize,
-) -> Result<State, AllocError>
-    requires lib { lib < length state.now.libs }
-    requires place { place < length boxes.now }
-    ensures { IfOk result (λ left. left ≡ after_activation (map P.facts boxes.now) state.now lib place) }
-{
-    let mut left = copy_state(alloc, state)?;
-    activate(alloc, boxes, &mut left, lib, place)?;
-    Ok(left)
-}
-
-/// The state in which a fetch looks that falls back to a provider.
+/// Brings a state to where a fetch looks that falls back to a provider, and tells by what that is taken back.
 pub fn fall_back<P: Provider>(
     alloc: Global,
     boxes: &[P],
-    state: &State,
+    state: &mut State,
     lib: u64,
     place: usize,
-) -> Result<State, AllocError>
-    requires lib { lib < length state.now.libs }
+) -> Result<Mark, AllocError>
+    requires lib { lib < length state.old.libs }
     requires place { place < length boxes.now }
-    ensures { IfOk result (λ left. left ≡ with_fallback_used (after_activation (map P.facts boxes.now) state.now lib place) lib) }
+    ensures ok { OnOk result (state.new ≡ with_fallback_used (after_activation (map P.facts boxes.now) state.old lib place) lib) }
+    ensures mark { IfOk result (λ mark. LeadsBack mark lib state.old state.new) }
+    ensures err { OnErr result (state.new ≡ state.old) }
 {
-    let mut left = activated(alloc, boxes, state, lib, place)?;
-    use_fallback(alloc, &mut left.libs, lib as usize);
-    Ok(left)
+    let mark = activate(alloc, boxes, state, lib, place)?;
+    use_fallback(&mut state.libs, lib as usize);
+    Ok(mark)
 }

@@ -12,13 +12,7 @@ use std::sync::ledger::Ledger;
 fn is_same_operation(a: Operation, b: Operation) -> bool
     ensures { result ≡ is_operation a b }
 {
-    match (a, b) {
-        (Operation::Digest, Operation::Digest)
-        | (Operation::Cipher, Operation::Cipher)
-        | (Operation::Mac, Operation::Mac)
-        | (Operation::Kdf, Operation::Kdf) => true,
-        _ => false,
-    }
+    a == b
 }
 
 fn is_wanted_row(op: Operation, number: u64, row: &Offered) -> bool

@@ -3,17 +3,13 @@ ghost use Rattle.ossl_state.specs.State.{no_lib};
 ghost use Rattle.ossl_state.specs.Step.{defaulted_of};
 
 use crate::items::Items;
-use crate::opening::fresh_lib;
 use crate::state::LibCtx;
 use ossl_property::Query;
-use std::alloc::Global;
 
 /// Sets the default query of a library context.
-pub fn set_default(alloc: Global, libs: &mut Items<LibCtx>, lib: usize, default: Query)
+pub fn set_default(libs: &mut Items<LibCtx>, lib: usize, default: Query)
     requires { lib < length libs.old }
     ensures { libs.new ≡ slice_set libs.old lib (defaulted_of (slice_index_or libs.old lib no_lib) default) }
 {
-    let mut was = libs.replace(lib, fresh_lib(alloc));
-    was.default = default;
-    libs.set(lib, was);
+    libs.at_mut(lib).default = default;
 }

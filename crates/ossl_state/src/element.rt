@@ -1,15 +1,22 @@
-ghost use Rattle.std.specs.Prelude.{◌≡◌, ◌++◌, find, map, IfOk, OnOk};
+ghost use Rattle.std.specs.Prelude.{◌≡◌, ◌++◌, ◌<◌, find, length, map, IfOk, OnOk, OnErr};
 ghost use Rattle.std.specs.Option.{option_copied, option_map};
+ghost use Rattle.ossl_state.specs.Best.{best_method};
 ghost use Rattle.ossl_state.specs.Boxes.{facts_at};
+ghost use Rattle.ossl_state.specs.Mark.{LeadsBack, fallen_back};
 ghost use Rattle.ossl_state.specs.Step.{context_made, element_of, fetched_of, held_by_inner, is_named, new_method, second_method, with_method};
 
+use crate::activation::fall_back;
+use crate::best::best;
 use crate::call::Reply;
 use crate::items::Items;
+use crate::mark::{Mark, take_back};
 use crate::state::{Choice, Kind, Live, State};
 use ossl_base::text::Text;
-use ossl_codes::Code;
+use ossl_codes::{Code, Operation};
+use ossl_property::{Query, Steps};
 use ossl_provider::provider::Provider;
 use std::alloc::{AllocError, Global};
+use std::sync::ledger::Ledger;
 
 /// The name of the provider at a place, empty where there is none.
 pub fn name_at<P: Provider>(boxes: &[P], place: usize) -> &[u8]
@@ -32,7 +39,7 @@ fn admits_at<P: Provider>(boxes: &[P], place: usize, code: Code, key_len: u64) -
 }
 
 /// What a fetch answers of its choice.
-pub fn reply_of<P: Provider>(
+fn reply_of<P: Provider>(
     alloc: Global,
     boxes: &[P],
     number: u64,
@@ -53,12 +60,7 @@ pub fn reply_of<P: Provider>(
 }
 
 /// The method of a chosen row.
-pub fn make_method(
-    alloc: Global,
-    number: u64,
-    caller: u64,
-    chosen: Choice,
-) -> Result<Live, AllocError>
+fn make_method(alloc: Global, number: u64, caller: u64, chosen: Choice) -> Result<Live, AllocError>
     ensures { IfOk result (λ x. x ≡ new_method number caller chosen) }
 {
     Ok(Live {
@@ -73,19 +75,84 @@ pub fn make_method(
 }
 
 /// Adds the method of a chosen row to a state.
-pub fn give_method(
+fn give_method(
     alloc: Global,
     state: &mut State,
     caller: u64,
     chosen: Option<Choice>,
 ) -> Result<(), AllocError>
-    ensures { OnOk result (state.new ≡ with_method state.old caller chosen) }
+    ensures ok { OnOk result (state.new ≡ with_method state.old caller chosen) }
+    ensures err { OnErr result (state.new ≡ state.old) }
 {
     if let Some(chosen) = chosen {
         let method = make_method(alloc, state.next, caller, chosen)?;
         state.live.push(method)?;
     }
     Ok(())
+}
+
+/// Looks for the best method of a name in a library context, and puts it into the state. What is answered is handed out twice: for
+/// the caller and for its entry.
+pub fn find_method<P: Provider, L: Ledger>(
+    alloc: Global,
+    boxes: &[P],
+    state: &mut State,
+    caller: u64,
+    lib: u64,
+    op: Operation,
+    name: &[u8],
+    query: &Query,
+    steps: &mut Steps<L>,
+) -> Result<(Reply, Reply), AllocError>
+    ensures ok { OnOk result (
+        state.new ≡ with_method state.old caller (best_method state.old lib op name.now query.now)) }
+    ensures told { IfOk result (λ told. let chosen = best_method state.old lib op name.now query.now in
+        told.0 ≡ fetched_of (map P.facts boxes.now) state.old.next chosen) }
+    ensures twice { IfOk result (λ told. told.1 ≡ told.0) }
+    ensures err { OnErr result (state.new ≡ state.old) }
+{
+    let chosen = best(alloc, state, lib, op, name, query, steps)?;
+    let number = state.next;
+    let told = (
+        reply_of(alloc, boxes, number, chosen)?,
+        reply_of(alloc, boxes, number, chosen)?,
+    );
+    give_method(alloc, state, caller, chosen)?;
+    Ok(told)
+}
+
+/// Looks for the best method of a name where a fetch falls back to the provider at a place, and puts both into the
+/// state. It tells by what that is taken back, and twice what is answered.
+pub fn fall_back_and_find<P: Provider, L: Ledger>(
+    alloc: Global,
+    boxes: &[P],
+    state: &mut State,
+    place: usize,
+    caller: u64,
+    lib: u64,
+    op: Operation,
+    name: &[u8],
+    query: &Query,
+    steps: &mut Steps<L>,
+) -> Result<(Mark, Reply, Reply), AllocError>
+    requires lib { lib < length state.old.libs }
+    requires place { place < length boxes.now }
+    ensures ok { OnOk result (let left = fallen_back (map P.facts boxes.now) state.old lib place in
+        state.new ≡ with_method left caller (best_method left lib op name.now query.now)) }
+    ensures told { IfOk result (λ told. let left = fallen_back (map P.facts boxes.now) state.old lib place in
+        told.1 ≡ fetched_of (map P.facts boxes.now) state.old.next (best_method left lib op name.now query.now)) }
+    ensures twice { IfOk result (λ told. told.2 ≡ told.1) }
+    ensures mark { IfOk result (λ told. LeadsBack told.0 lib state.old state.new) }
+    ensures err { OnErr result (state.new ≡ state.old) }
+{
+    let mark = fall_back(alloc, boxes, state, lib, place)?;
+    match find_method(alloc, boxes, state, caller, lib, op, name, query, steps) {
+        Ok((reply, copy)) => Ok((mark, reply, copy)),
+        Err(refused) => {
+            take_back(state, mark);
+            Err(refused)
+        }
+    }
 }
 
 /// The live element that a token names.

@@ -1,14 +1,13 @@
-ghost use Rattle.std.specs.Prelude.{◌≡◌, ◌<◌, ◌^◌, ◌-◌, ◌&&◌, nat_eq, not, filter, length, slice_index_or, slice_set};
+ghost use Rattle.std.specs.Prelude.{◌≡◌, ◌<◌, ◌&&◌, nat_eq, not, filter, length, slice_index_or, slice_set};
 ghost use Rattle.std.specs.List.{list_any};
 ghost use Rattle.ossl_provider.specs.Members.{is_in};
 ghost use Rattle.ossl_state.specs.Going.{without_going, answer_of, returned_by, IsThere};
 ghost use Rattle.ossl_state.specs.State.{is_active, is_up, no_lib};
-ghost use Rattle.ossl_state.specs.Step.{closed_of, is_kept, is_named, is_of_token, stays_active, unloaded_of, with_next};
+ghost use Rattle.ossl_state.specs.Step.{closed_of, is_kept, is_named, is_of_token, stays_active, unloaded_of};
 
 use crate::call::Reply;
 use crate::items::Items;
 use crate::lookup::{is_active_instance, is_held_instance, is_up_instance, order_of};
-use crate::opening::fresh_lib;
 use crate::state::{Active, Born, Given, Going, LibCtx, Live, State};
 use ossl_names::NameMap;
 use std::alloc::Global;
@@ -104,18 +103,11 @@ fn close(alloc: Global, libs: &mut Items<LibCtx>, lib: usize)
     requires { lib < length libs.old }
     ensures { libs.new ≡ slice_set libs.old lib (closed_of (slice_index_or libs.old lib no_lib)) }
 {
-    let was = libs.replace(lib, fresh_lib(alloc));
-    libs.set(
-        lib,
-        LibCtx {
-            is_open: false,
-            fallback: was.fallback,
-            default: was.default,
-            groups: NameMap::new(alloc),
-            order: Items::new(alloc),
-            given: Items::new(alloc),
-        },
-    );
+    let context = libs.at_mut(lib);
+    context.is_open = false;
+    context.groups = NameMap::new(alloc);
+    context.order = Items::new(alloc);
+    context.given = Items::new(alloc);
 }
 
 /// Takes out of an order what nothing else than the token's activation keeps active.
@@ -126,14 +118,13 @@ fn settle(order: &mut Items<Active>, given: &[Given], token: u64, kept: Option<u
 }
 
 /// Takes a token's activation out of a library context, and what nothing else keeps active there.
-fn unload(alloc: Global, libs: &mut Items<LibCtx>, lib: usize, token: u64, kept: Option<usize>)
+fn unload(libs: &mut Items<LibCtx>, lib: usize, token: u64, kept: Option<usize>)
     requires { lib < length libs.old }
     ensures { libs.new ≡ slice_set libs.old lib (unloaded_of kept token (slice_index_or libs.old lib no_lib)) }
 {
-    let mut was = libs.replace(lib, fresh_lib(alloc));
-    settle(&mut was.order, was.given.as_slice(), token, kept);
-    was.given.retain(|g| g.number != token);
-    libs.set(lib, was);
+    let context = libs.at_mut(lib);
+    settle(&mut context.order, context.given.as_slice(), token, kept);
+    context.given.retain(|g| g.number != token);
 }
 
 /// What is answered where something goes.
@@ -156,17 +147,15 @@ pub fn returned(going: &Going) -> usize
     }
 }
 
-/// Takes out what goes, and counts the entry.
+/// Takes out what goes.
 pub fn take_out(alloc: Global, state: &mut State, going: &Going)
-    requires there { IsThere state.old.libs going.now }
-    requires room { state.old.next < 2 ^ 64 - 1 }
-    ensures { state.new ≡ with_next (without_going state.old going.now) }
+    requires { IsThere state.old.libs going.now }
+    ensures { state.new ≡ without_going state.old going.now }
 {
     match *going {
         Going::Element { token } => drop_named(&mut state.live, token),
-        Going::Activation { lib, token, kept } => unload(alloc, &mut state.libs, lib, token, kept),
+        Going::Activation { lib, token, kept } => unload(&mut state.libs, lib, token, kept),
         Going::Nothing => (),
         Going::Library { lib } => close(alloc, &mut state.libs, lib),
     }
-    state.next += 1;
 }

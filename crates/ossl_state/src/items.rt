@@ -1,12 +1,11 @@
-ghost use Rattle.std.specs.Prelude.{◌≡◌, [], ◌∷◌, ◌++◌, ◌<◌, length, slice_index_or, slice_set, IfOk, OnOk, OnErr};
+ghost use Rattle.std.specs.Prelude.{◌≡◌, [], ◌∷◌, ◌++◌, ◌<◌, length, slice_index_or, take, IfOk, OnOk, OnErr};
 ghost use Rattle.std.specs.Fn.{CalledAt};
 ghost use Rattle.std.specs.List.Retain.{IsFiltered};
 
 use std::alloc::{AllocError, Global};
 use std::marker::Model;
-use std::mem;
 
-/// A `Vec` that contracts see as the list of its elements, so that a copy equals what it copies.
+/// A `Vec` that contracts see as the list of its elements.
 #[derive(Drop)]
 pub struct Items<T> {
     items: Vec<T>,
@@ -45,6 +44,20 @@ impl<T> Items<T> {
     }
 }
 
+impl<T> Items<T> {
+    ghost use Rattle.std.specs.Borrow.{sem};
+    ghost use Rattle.ossl_state.specs.Lends.{LendsItem};
+
+    /// The item at an index, for a change of it.
+    pub fn at_mut(&mut self, at: usize) -> &mut T
+        requires { at < length self.old }
+        ensures* writes_back { sem 𝓛 (LendsItem T.row self.entry at result) }
+        ensures value { result.now ≡ slice_index_or self.old at result.now }
+    {
+        &mut self.items[at]
+    }
+}
+
 impl<T: Copy> Items<T> {
     pub fn from_slice(alloc: Global, items: &[T]) -> Result<Items<T>, AllocError>
         ensures { IfOk result (λ it. it ≡ items.now) }
@@ -65,15 +78,6 @@ impl<T: Copy> Items<T> {
 }
 
 impl<T: Drop> Items<T> {
-    /// Puts an item in the place of another, which it hands out.
-    pub fn replace(&mut self, at: usize, item: T) -> T
-        requires { at < length self.old }
-        ensures value { result ≡ slice_index_or self.old at result }
-        ensures rest { self.new ≡ slice_set self.old at item }
-    {
-        mem::replace(&mut self.items[at], item)
-    }
-
     /// Keeps the items that pass a test.
     pub fn retain<F: FnMut(&T) -> bool>(&mut self, f: F)
         requires { F.IsAlwaysCallable f }
@@ -82,13 +86,14 @@ impl<T: Drop> Items<T> {
         self.items.retain(f);
     }
 
-    pub fn set(&mut self, at: usize, item: T)
-        requires { at < length self.old }
-        ensures { self.new ≡ slice_set self.old at item }
+    /// Keeps so many items, the first ones.
+    pub fn truncate(&mut self, len: usize)
+        ensures { self.new ≡ take len self.old }
     {
-        self.items[at] = item;
+        self.items.truncate(len);
     }
 
+    /// Appends an item.
     pub fn push(&mut self, item: T) -> Result<(), AllocError>
         ensures ok { OnOk result (self.new ≡ self.old ++ item ∷ []) }
         ensures err { OnErr result (self.new ≡ self.old) }

@@ -1,13 +1,14 @@
-ghost use Rattle.std.specs.Prelude.{◌≡◌, ◌<◌, length, map, position, slice_index_or, slice_set, OnOk};
+ghost use Rattle.std.specs.Prelude.{◌≡◌, ◌<◌, length, map, position, slice_index_or, slice_set, IfOk, OnOk, OnErr};
 ghost use Rattle.std.specs.List.{list_any};
+ghost use Rattle.ossl_state.specs.Mark.{LeadsBack};
 ghost use Rattle.ossl_state.specs.State.{no_lib};
-ghost use Rattle.ossl_state.specs.Step.{fallback_after_load, instance_in, is_of_token, is_used, kept_of, loaded_of, loaded_reply, skipped_of};
+ghost use Rattle.ossl_state.specs.Step.{after_load_of, fallback_after_load, instance_in, is_of_token, is_used, kept_of, loaded_of, loaded_reply, skipped_of};
 
-use crate::activation::{fallback_at, find_box};
+use crate::activation::{activate, fallback_at, find_box};
 use crate::call::Reply;
 use crate::items::Items;
 use crate::lookup::order_of;
-use crate::opening::fresh_lib;
+use crate::mark::{Mark, take_back};
 use crate::state::{Active, Born, Fallback, Given, LibCtx, State};
 use ossl_provider::provider::Provider;
 use std::alloc::{AllocError, Global};
@@ -23,21 +24,51 @@ fn fallback_after_load(retain: bool, fallback: Fallback) -> Fallback
 }
 
 /// Gives an activation of a library context.
-pub fn give_activation(
-    alloc: Global,
+fn give_activation(
     libs: &mut Items<LibCtx>,
     lib: usize,
     retain: bool,
     given: Given,
 ) -> Result<(), AllocError>
     requires { lib < length libs.old }
-    ensures { OnOk result (libs.new ≡ slice_set libs.old lib (loaded_of retain given (slice_index_or libs.old lib no_lib))) }
+    ensures ok { OnOk result (libs.new ≡ slice_set libs.old lib (loaded_of retain given (slice_index_or libs.old lib no_lib))) }
+    ensures err { OnErr result (libs.new ≡ libs.old) }
 {
-    let mut was = libs.replace(lib, fresh_lib(alloc));
-    was.fallback = fallback_after_load(retain, was.fallback);
-    was.given.push(given)?;
-    libs.set(lib, was);
+    let context = libs.at_mut(lib);
+    context.given.push(given)?;
+    context.fallback = fallback_after_load(retain, context.fallback);
     Ok(())
+}
+
+/// Puts into a state what an accepted load of the provider at a place leaves, and tells by what it is taken back.
+pub fn load<P: Provider>(
+    alloc: Global,
+    boxes: &[P],
+    state: &mut State,
+    caller: u64,
+    lib: u64,
+    retain: bool,
+    place: usize,
+) -> Result<Mark, AllocError>
+    requires lib { lib < length state.old.libs }
+    requires place { place < length boxes.now }
+    ensures ok { OnOk result (state.new ≡ after_load_of (map P.facts boxes.now) state.old caller lib retain place) }
+    ensures mark { IfOk result (λ mark. LeadsBack mark lib state.old state.new) }
+    ensures err { OnErr result (state.new ≡ state.old) }
+{
+    let mark = activate(alloc, boxes, state, lib, place)?;
+    let given = Given {
+        number: state.next,
+        place,
+        owner: caller,
+    };
+    match give_activation(&mut state.libs, lib as usize, retain, given) {
+        Ok(()) => Ok(mark),
+        Err(refused) => {
+            take_back(state, mark);
+            Err(refused)
+        }
+    }
 }
 
 /// The instance of a box in an order.
@@ -84,11 +115,7 @@ pub fn find_holder(libs: &[LibCtx], token: u64) -> Option<usize>
 fn is_used_fallback(fallback: Fallback) -> bool
     ensures { result ≡ is_used fallback }
 {
-    match fallback {
-        Fallback::Armed => false,
-        Fallback::Off => false,
-        Fallback::Used => true,
-    }
+    matches!(fallback, Fallback::Used)
 }
 
 /// The place of the provider that the fallback of a library context keeps active.

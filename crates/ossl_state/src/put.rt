@@ -16,14 +16,44 @@ pub fn put_entry(alloc: Global, out: &mut Vec<u8>, entry: &Entry) -> Result<(), 
     ensures err { OnErr result (out.new.items ≡ out.old.items) }
 {
     let mut text = Vec::new(alloc);
-    put_call(alloc, &mut text, &entry.call)?;
+    write_call(alloc, &mut text, &entry.call)?;
     text.extend_from_slice(b": ")?;
-    put_reply(alloc, &mut text, &entry.reply)?;
+    write_reply(alloc, &mut text, &entry.reply)?;
     out.extend_from_slice(text.as_slice())
 }
 
-/// Appends a text and a number in decimal digits. Where memory is refused, what stands behind the old bytes is not said.
+/// Appends the text of a call.
+pub fn put_call(alloc: Global, out: &mut Vec<u8>, call: &Call) -> Result<(), AllocError>
+    ensures ok { OnOk result (out.new.items ≡ out.old.items ++ call_text call.now) }
+    ensures err { OnErr result (out.new.items ≡ out.old.items) }
+{
+    let mut text = Vec::new(alloc);
+    write_call(alloc, &mut text, call)?;
+    out.extend_from_slice(text.as_slice())
+}
+
+/// Appends the text of a reply.
+pub fn put_reply(alloc: Global, out: &mut Vec<u8>, reply: &Reply) -> Result<(), AllocError>
+    ensures ok { OnOk result (out.new.items ≡ out.old.items ++ reply_text reply.now) }
+    ensures err { OnErr result (out.new.items ≡ out.old.items) }
+{
+    let mut text = Vec::new(alloc);
+    write_reply(alloc, &mut text, reply)?;
+    out.extend_from_slice(text.as_slice())
+}
+
+/// Appends a text and a number in decimal digits.
 pub fn put_numbered(alloc: Global, out: &mut Vec<u8>, text: &[u8], n: u64) -> Result<(), AllocError>
+    ensures ok { OnOk result (out.new.items ≡ out.old.items ++ text.now ++ decimal n) }
+    ensures err { OnErr result (out.new.items ≡ out.old.items) }
+{
+    let mut line = Vec::new(alloc);
+    write_numbered(alloc, &mut line, text, n)?;
+    out.extend_from_slice(line.as_slice())
+}
+
+/// Writes a text and a number in decimal digits; these private writers may leave a part where memory is refused.
+fn write_numbered(alloc: Global, out: &mut Vec<u8>, text: &[u8], n: u64) -> Result<(), AllocError>
     ensures { OnOk result (out.new.items ≡ out.old.items ++ text.now ++ decimal n) }
 {
     out.extend_from_slice(text)?;
@@ -41,29 +71,28 @@ fn operation_name(op: Operation) -> &'static [u8]
     }
 }
 
-/// What stands behind a load that keeps the fallback.
+/// What stands after a load that keeps the fallback.
 fn retain_word(retain: bool) -> &'static [u8]
     ensures { result.now ≡ retain_text retain }
 {
     if retain { b" retain" } else { b"" }
 }
 
-/// Appends the text of a call. Where memory is refused, what stands behind the old bytes is not said; `put_entry` appends nothing
-/// then.
-pub fn put_call(alloc: Global, out: &mut Vec<u8>, call: &Call) -> Result<(), AllocError>
+/// Writes the text of a call.
+fn write_call(alloc: Global, out: &mut Vec<u8>, call: &Call) -> Result<(), AllocError>
     ensures { OnOk result (out.new.items ≡ out.old.items ++ call_text call.now) }
 {
     match call {
         Call::Load { lib, name, retain } => {
-            put_numbered(alloc, out, b"load ", *lib)?;
+            write_numbered(alloc, out, b"load ", *lib)?;
             out.extend_from_slice(b" ")?;
             out.extend_from_slice(name.as_slice())?;
             out.extend_from_slice(retain_word(*retain))
         }
-        Call::Unload { token } => put_numbered(alloc, out, b"unload ", *token),
+        Call::Unload { token } => write_numbered(alloc, out, b"unload ", *token),
         Call::SetDefault { lib, query } => {
-            put_numbered(alloc, out, b"default ", *lib)?;
-            put_query(alloc, out, query)
+            write_numbered(alloc, out, b"default ", *lib)?;
+            write_query(alloc, out, query)
         }
         Call::Fetch {
             lib,
@@ -71,31 +100,31 @@ pub fn put_call(alloc: Global, out: &mut Vec<u8>, call: &Call) -> Result<(), All
             name,
             query,
         } => {
-            put_numbered(alloc, out, b"fetch ", *lib)?;
+            write_numbered(alloc, out, b"fetch ", *lib)?;
             out.extend_from_slice(b" ")?;
             out.extend_from_slice(operation_name(*op))?;
             out.extend_from_slice(b" ")?;
             out.extend_from_slice(name.as_slice())?;
-            put_query(alloc, out, query)
+            write_query(alloc, out, query)
         }
-        Call::UpRef { handle } => put_numbered(alloc, out, b"upref ", *handle),
-        Call::Free { handle } => put_numbered(alloc, out, b"free ", *handle),
+        Call::UpRef { handle } => write_numbered(alloc, out, b"upref ", *handle),
+        Call::Free { handle } => write_numbered(alloc, out, b"free ", *handle),
         Call::NewCtx {
             handle,
             inner,
             key_len,
         } => {
-            put_numbered(alloc, out, b"newctx ", *handle)?;
-            put_inner(alloc, out, *inner)?;
-            put_numbered(alloc, out, b" ", *key_len)
+            write_numbered(alloc, out, b"newctx ", *handle)?;
+            write_inner(alloc, out, *inner)?;
+            write_numbered(alloc, out, b" ", *key_len)
         }
-        Call::FreeCtx { handle } => put_numbered(alloc, out, b"freectx ", *handle),
-        Call::CloseLib { lib } => put_numbered(alloc, out, b"closelib ", *lib),
+        Call::FreeCtx { handle } => write_numbered(alloc, out, b"freectx ", *handle),
+        Call::CloseLib { lib } => write_numbered(alloc, out, b"closelib ", *lib),
     }
 }
 
-/// Appends a space and the printed form of a query in brackets.
-fn put_query(alloc: Global, out: &mut Vec<u8>, query: &Query) -> Result<(), AllocError>
+/// Writes a space and the printed form of a query in brackets.
+fn write_query(alloc: Global, out: &mut Vec<u8>, query: &Query) -> Result<(), AllocError>
     ensures { OnOk result (out.new.items ≡ out.old.items ++ codes " [" ++ printed_query query.now ++ codes "]") }
 {
     let text = query.print(alloc)?;
@@ -104,19 +133,18 @@ fn put_query(alloc: Global, out: &mut Vec<u8>, query: &Query) -> Result<(), Allo
     out.extend_from_slice(b"]")
 }
 
-/// Appends a space and the token of an inner method, or a dash where there is none.
-fn put_inner(alloc: Global, out: &mut Vec<u8>, inner: Option<u64>) -> Result<(), AllocError>
+/// Writes a space and the token of an inner method, or a dash where there is none.
+fn write_inner(alloc: Global, out: &mut Vec<u8>, inner: Option<u64>) -> Result<(), AllocError>
     ensures { OnOk result (out.new.items ≡ out.old.items ++ codes " " ++ inner_text inner) }
 {
     match inner {
-        Some(token) => put_numbered(alloc, out, b" ", token),
+        Some(token) => write_numbered(alloc, out, b" ", token),
         None => out.extend_from_slice(b" -"),
     }
 }
 
-/// Appends the text of a reply. Where memory is refused, what stands behind the old bytes is not said; `put_entry` appends nothing
-/// then.
-pub fn put_reply(alloc: Global, out: &mut Vec<u8>, reply: &Reply) -> Result<(), AllocError>
+/// Writes the text of a reply.
+fn write_reply(alloc: Global, out: &mut Vec<u8>, reply: &Reply) -> Result<(), AllocError>
     ensures { OnOk result (out.new.items ≡ out.old.items ++ reply_text reply.now) }
 {
     match reply {
@@ -125,8 +153,8 @@ pub fn put_reply(alloc: Global, out: &mut Vec<u8>, reply: &Reply) -> Result<(), 
             instance,
             skipped,
         } => {
-            put_numbered(alloc, out, b"ok ", *instance)?;
-            put_numbered(alloc, out, b" skipped ", *skipped)
+            write_numbered(alloc, out, b"ok ", *instance)?;
+            write_numbered(alloc, out, b" skipped ", *skipped)
         }
         Reply::Fetched {
             number: _,
@@ -137,8 +165,8 @@ pub fn put_reply(alloc: Global, out: &mut Vec<u8>, reply: &Reply) -> Result<(), 
         } => {
             out.extend_from_slice(b"ok ")?;
             out.extend_from_slice(provider.as_slice())?;
-            put_numbered(alloc, out, b" ", *instance)?;
-            put_numbered(alloc, out, b" ", *row)
+            write_numbered(alloc, out, b" ", *instance)?;
+            write_numbered(alloc, out, b" ", *row)
         }
         Reply::Made { number: _ } | Reply::Done => out.extend_from_slice(b"ok"),
         Reply::NoLib => out.extend_from_slice(b"no context"),
