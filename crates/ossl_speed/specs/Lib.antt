@@ -7,3 +7,5 @@ pub mod Fed
 pub mod Streams
 pub mod FedLaws
 pub mod StreamLaws
+pub mod Contexts
+pub mod Operations

@@ -101,8 +101,8 @@ impl<C: Cipher> Intake for Sealing<C> {
     }
 }
 
-// Drops all but the last bytes.
-fn keep_last(out: &mut Vec<u8>)
+/// Drops all but the last bytes.
+pub fn keep_last(out: &mut Vec<u8>)
     ensures { out.new.items ≡ last 64 out.old.items }
 {
     if out.len() > KEPT {
