@@ -28,7 +28,7 @@ placed-entry (e ∷ es) rank offer none = by (placed-entry es rank offer) (nat_l
   where
     by : (find_at rank es ≡ None → map offering (insert_entry nat_cmp es rank offer) ≡ placed (offering (rank, offer)) (map offering es)) → (l s : Bool) → nat_lt rank e.0 ≡ l → nat_eq rank e.0 ≡ s
         → map offering (match_ordering (cond l Less (cond s Equal Greater)) ((rank, offer) ∷ e ∷ es) ((e.0, offer) ∷ es) (e ∷ insert_entry nat_cmp es rank offer))
-          ≡ cond l (offering (rank, offer) ∷ offering e ∷ map offering es) (offering e ∷ placed (offering (rank, offer)) (map offering es))
+        ≡ cond l (offering (rank, offer) ∷ offering e ∷ map offering es) (offering e ∷ placed (offering (rank, offer)) (map offering es))
     by on true s less same = refl
     by on false true less same =
         let bad : Some e.1 ≡ None = rw (is_at-nat rank e.0, same) at none in
@@ -72,7 +72,7 @@ without-entry b (e ∷ es) instance rank rise there differs = by (without-entry 
     later q x found = find_at-tail q e es (find_at-later q e es x rise.1 found) ∙ found
 
     by : (option_map (λ (o : Offer). o.instance) (find_at rank es) ≡ Some instance → ((q : ℕ) (x : Offer) → find_at q es ≡ Some x → nat_eq q rank ≡ false → nat_eq x.instance instance ≡ false)
-          → without instance (map offering es) ≡ map offering (remove_entry (is_at (nat_cmp rank)) es))
+        → without instance (map offering es) ≡ map offering (remove_entry (is_at (nat_cmp rank)) es))
         → (s : Bool) → nat_eq rank e.0 ≡ s → without instance (map offering (e ∷ es)) ≡ map offering (remove_entry (is_at (nat_cmp rank)) (e ∷ es))
     by on true same =
         let at : rank ≡ e.0 = eqb-true rank e.0 same in

@@ -21,8 +21,8 @@ loop-rank-preserved-in-Some-get g c =
     let spent = c.best_of_run-best.ensures.steps ∙ ap (λ ps. c.loop-rank.steps + length query * length (picked rows ps)) c.deref.ensures.value ∙ ap (λ k. c.loop-rank.steps + length query * k) count in
     record {
       best = ap (λ b. best_from b query left) best ∙ sym (best_from-append query c.loop-rank.best (taken_of run) left)
-        ∙ sym (ap (λ it. best_from c.loop-rank.best query (flat_map taken_of it)) c.in-Some.ensures.steps) ∙ c.loop-rank.invariant.best;
+          ∙ sym (ap (λ it. best_from c.loop-rank.best query (flat_map taken_of it)) c.in-Some.ensures.steps) ∙ c.loop-rank.invariant.best;
       steps = cost-step c.loop-rank.steps c.best_of_run-best.new.steps (length query) (length (taken_of run)) (length (flat_map taken_of c.loop-rank.rank-iterator)) (length left)
-        (c.args.steps.now + length query * length (flat_map taken_of c.args.runs.now.entries)) spent
-        (ap (λ it. length query * length (flat_map taken_of it)) c.in-Some.ensures.steps ∙ cost-append (length query) (taken_of run) left) c.loop-rank.invariant.steps;
+          (c.args.steps.now + length query * length (flat_map taken_of c.args.runs.now.entries)) spent
+          (ap (λ it. length query * length (flat_map taken_of it)) c.in-Some.ensures.steps ∙ cost-append (length query) (taken_of run) left) c.loop-rank.invariant.steps;
     }
