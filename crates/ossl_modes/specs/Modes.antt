@@ -50,19 +50,17 @@ before t (Err r) = Err r
 abbrev pub padded : List ℕ → List ℕ
 padded bs = bs ++ replicate (16 - length bs % 16) (16 - length bs % 16)
 
--- how many bytes of the last block are no padding: its last byte n is 1 to 16, and so are its last n bytes n (RFC 5652, 6.3)
-abbrev pub unpadded_len : List ℕ → Result ℕ FinishRefused
-unpadded_len b = let n = slice_index b 15 in
-    if nat_le 1 n && nat_le n 16 && list_all (λ x. nat_eq x n) (drop (16 - n) b) then Ok (16 - n) else Err BadDecrypt
+-- whether a last block ends in a padding: its last byte n is 1 to 16, and so are its last n bytes n (RFC 5652, 6.3)
+abbrev pub ends_in_padding : List ℕ → Bool
+ends_in_padding b = let n = slice_index b 15 in nat_le 1 n && nat_le n 16 && list_all (λ x. nat_eq x n) (drop (16 - n) b)
 
--- so many bytes of a text, or the refusal
-abbrev pub front_of : List ℕ → Result ℕ FinishRefused → Result (List ℕ) FinishRefused
-front_of b (Ok n) = Ok (take n b)
-front_of b (Err r) = Err r
+-- how many bytes of it are no padding
+abbrev pub unpadded_len : List ℕ → Result ℕ FinishRefused
+unpadded_len b = if ends_in_padding b then Ok (16 - slice_index b 15) else Err BadDecrypt
 
 -- the last block without its padding
 abbrev pub unpadded : List ℕ → Result (List ℕ) FinishRefused
-unpadded b = front_of b (unpadded_len b)
+unpadded b = if ends_in_padding b then Ok (take (16 - slice_index b 15) b) else Err BadDecrypt
 
 module _ (e d : List ℕ → List ℕ) (kind : ModeKind) (decrypt : Bool) where
   -- what the first n blocks become
