@@ -286,23 +286,27 @@ none_by_program number files [] said is =
     subst (λ (c : Commands). lines_of 0 c.lines ≡ []) same refl
 none_by_program number files (text ∷ texts) said is = elim (cases_Bool (is_skipped text)) [
   | inl skipped ↦ none_by_program (number + 1) files texts said (rw skipped at is)
-  | inr told ↦ of (judged files text) refl (rw told at is)
+  | inr told ↦ of (judged files text) refl (λ named more was. none_by_program (number + 1) named texts more was) (rw told at is)
 ]
   where
-    step : (told : Said) → judged files text ≡ Ok told → (r : Result Commands Fault) → commands_from (number + 1) told.files texts ≡ r
+    step : (told : Said) → judged files text ≡ Ok told
+        → ((more : Commands) → commands_from (number + 1) told.files texts ≡ Ok more → lines_of 0 more.lines ≡ [])
+        → (r : Result Commands Fault) → commands_from (number + 1) told.files texts ≡ r
         → r >>= (λ more. Ok (record { lines = record { number = number; caller = told.caller; command = told.command } ∷ more.lines; files = more.files })) ≡ Ok said
         → lines_of 0 said.lines ≡ []
-    step told good (Err fault) was is = cc
-    step told good (Ok more) was is =
+    step told good behind (Err fault) was is = cc
+    step told good behind (Ok more) was is =
         let line : Line = record { number = number; caller = told.caller; command = told.command } in
         let whole : Commands = record { lines = line ∷ more.lines; files = more.files } in
         let same : whole ≡ said = cc in
         let other : nat_eq told.caller 0 ≡ false = ne_eqb told.caller 0 (λ zero. absurd (omega (arith, has_caller files text told good, zero))) in
-        subst (λ (c : Commands). lines_of 0 c.lines ≡ []) same (rw other (none_by_program (number + 1) told.files texts more was))
+        subst (λ (c : Commands). lines_of 0 c.lines ≡ []) same (rw other (behind more was))
 
-    of : (judging : Result Said LineKind) → judged files text ≡ judging → numbered number judging (λ named. commands_from (number + 1) named texts) ≡ Ok said → lines_of 0 said.lines ≡ []
-    of (Err kind) judging is = cc
-    of (Ok told) judging is = step told judging (commands_from (number + 1) told.files texts) refl is
+    of : (judging : Result Said LineKind) → judged files text ≡ judging
+        → ((named : Files) (more : Commands) → commands_from (number + 1) named texts ≡ Ok more → lines_of 0 more.lines ≡ [])
+        → numbered number judging (λ named. commands_from (number + 1) named texts) ≡ Ok said → lines_of 0 said.lines ≡ []
+    of (Err kind) judging behind is = cc
+    of (Ok told) judging behind is = step told judging (behind told.files) (commands_from (number + 1) told.files texts) refl is
 
 pub program_is_apart : ProgramIsApart
 program_is_apart text files settings batch list entries is run =

@@ -56,20 +56,23 @@ commands-rise number n files [] said less is =
     subst (λ (c : Commands). Rises n c.lines) same tt
 commands-rise number n files (text ∷ texts) said less is = elim (cases_Bool (is_skipped text)) [
   | inl skipped ↦ commands-rise (number + 1) n files texts said (omega (arith, less)) (rw skipped at is)
-  | inr told ↦ of (judged files text) (rw told at is)
+  | inr told ↦ of (judged files text) (λ named more was. commands-rise (number + 1) number named texts more (omega arith) was) (rw told at is)
 ]
   where
-    step : (told : Said) (r : Result Commands Fault) → commands_from (number + 1) told.files texts ≡ r
+    step : (told : Said) → ((more : Commands) → commands_from (number + 1) told.files texts ≡ Ok more → Rises number more.lines)
+        → (r : Result Commands Fault) → commands_from (number + 1) told.files texts ≡ r
         → r >>= (λ more. Ok (record { lines = record { number = number; caller = told.caller; command = told.command } ∷ more.lines; files = more.files })) ≡ Ok said → Rises n said.lines
-    step told (Err fault) was is = cc
-    step told (Ok more) was is =
+    step told behind (Err fault) was is = cc
+    step told behind (Ok more) was is =
         let whole : Commands = record { lines = record { number = number; caller = told.caller; command = told.command } ∷ more.lines; files = more.files } in
         let same : whole ≡ said = cc in
-        subst (λ (c : Commands). Rises n c.lines) same (less, commands-rise (number + 1) number told.files texts more (omega arith) was)
+        subst (λ (c : Commands). Rises n c.lines) same (less, behind more was)
 
-    of : (judged : Result Said LineKind) → numbered number judged (λ named. commands_from (number + 1) named texts) ≡ Ok said → Rises n said.lines
-    of (Err kind) is = cc
-    of (Ok told) is = step told (commands_from (number + 1) told.files texts) refl is
+    of : (judged : Result Said LineKind)
+        → ((named : Files) (more : Commands) → commands_from (number + 1) named texts ≡ Ok more → Rises number more.lines)
+        → numbered number judged (λ named. commands_from (number + 1) named texts) ≡ Ok said → Rises n said.lines
+    of (Err kind) behind is = cc
+    of (Ok told) behind is = step told (behind told.files) (commands_from (number + 1) told.files texts) refl is
 
 -- 2. A caller's next line never falls.
 

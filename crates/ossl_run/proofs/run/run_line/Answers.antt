@@ -7,7 +7,7 @@ use Rattle.ossl_run.proofs.LineLaws.{Follows-next, next_is_allowed}
 use Rattle.ossl_run.proofs.run.run_line.Goals as goal
 
 pub perform-requires-clause-allowed : goal.perform-requires-clause-allowed
-perform-requires-clause-allowed g c κs within =
+perform-requires-clause-allowed g c =
     let so_far = c.loop-replies.invariant in
     let entries = c.loop-replies.registry.entries in
     let next : next_call c.args.line.now (replies_of entries) ≡ Some c.in-Some.call = sym (rw (c.in-Some.is, c.as_slice.ensures.value, so_far.replied) at c.in_ok-call.ensures) in
