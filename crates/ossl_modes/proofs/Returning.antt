@@ -1,5 +1,5 @@
 -- CBC with padding brings a text back, block by block.
-use Rattle.std.proofs.Common.{◌≡◌, ℕ, zero, suc, ◌+◌, ◌-◌, ◌*◌, ◌/◌, ◌%◌, ◌<◌, ◌≤◌, true, false, cond, nat_eq, nat_le, ◌&&◌, List, [], ◌∷◌, ◌++◌, length, take, drop, replicate, slice_index, Result, Ok, Err, refl, sym, ap, ◌∙◌, arith, length-append}
+use Rattle.std.proofs.Common.{◌≡◌, ℕ, zero, suc, ◌+◌, ◌-◌, ◌*◌, ◌/◌, ◌%◌, ◌<◌, ◌≤◌, true, false, cond, nat_eq, nat_le, List, [], ◌∷◌, ◌++◌, length, take, drop, replicate, slice_index, Result, Ok, Err, refl, sym, ap, ◌∙◌, arith, length-append}
 use Rattle.std.specs.List.{All, list_all}
 use Rattle.std.proofs.lemmas.List.{append-nil, drop-append-le, drop_at, get_or-drop, get_or-replicate, length-drop, length-replicate, length-take-le, take-append-drop, take-append-le, take_all, take_at}
 use Rattle.std.proofs.lemmas.Bool.Decides.{nat_tests}
@@ -9,7 +9,7 @@ use Rattle.ossl_aes.proofs.Undoing.{AreBytes, IsByte, Block, add_twice, added_bl
 use Rattle.ossl_modes.specs.declared.kinds.ModeKind.TheVariants.{Cbc}
 use Rattle.ossl_modes.specs.declared.kinds.FinishRefused.{FinishRefused}
 use Rattle.ossl_modes.specs.declared.kinds.FinishRefused.TheVariants.{WrongFinalBlock}
-use Rattle.ossl_modes.specs.Modes.{blocks, before, checked, equations, outcome, padded, unpadded}
+use Rattle.ossl_modes.specs.Modes.{blocks, before, checked, equations, padded, unpadded}
 use Rattle.ossl_modes.specs.Return.{ComesBack}
 
 -- ---- texts of bytes
