@@ -3,3 +3,8 @@ pub mod WorkedCommands
 pub mod WorkedFaults
 pub mod WorkedLimits
 pub mod FilesLaws
+pub mod TextLaws
+pub mod JudgingLaws
+pub mod AmountLaws
+pub mod ScriptLaws
+pub mod OwnLaws

@@ -1,5 +1,5 @@
 -- How much a batch names: its lines, callers and library contexts.
-use Rattle.std.specs.Prelude.{ℕ, ◌+◌, max, Option, Some, None, List, [], ◌∷◌, length, map, fold, filter_map, flat_map}
+use Rattle.std.specs.Prelude.{ℕ, ◌+◌, max, Option, Some, None, List, [], ◌∷◌, length, map, fold, filter, filter_map, flat_map, nat_eq, if◌then◌else◌}
 use Rattle.std.specs.Str.Lines.{lines}
 use Rattle.ossl_commands.specs.declared.command.Argument.{Argument}
 use Rattle.ossl_commands.specs.declared.command.Argument.TheVariants.{Piece, Lib, Key, Iv, Salt, Info}
@@ -51,3 +51,12 @@ data_in (Iv given) = Some given
 data_in (Salt given) = Some given
 data_in (Info given) = Some given
 data_in argument = None
+
+-- the lines of a caller
+abbrev pub lines_of : ℕ → List Line → List Line
+lines_of caller lines = filter (λ line. nat_eq line.caller caller) lines
+
+-- their places, where the first of all lines has this one
+abbrev pub own_places : ℕ → ℕ → List Line → List ℕ
+own_places caller place [] = []
+own_places caller place (line ∷ lines) = if nat_eq line.caller caller then place ∷ own_places caller (place + 1) lines else own_places caller (place + 1) lines

@@ -1,5 +1,5 @@
 -- How much a batch declares, and the first limit that it passes.
-use Rattle.std.specs.Prelude.{ℕ, nat_lt, Option, Some, None, List, [], ◌∷◌, ◌++◌, length, map, slice_index, sum, sum_by, if◌then◌else◌}
+use Rattle.std.specs.Prelude.{ℕ, ◌-◌, ◌^◌, min, nat_lt, Option, Some, None, List, [], ◌∷◌, ◌++◌, length, map, slice_index, sum, sum_by, if◌then◌else◌}
 use Rattle.ossl_commands.specs.declared.command.Argument.{Argument}
 use Rattle.ossl_commands.specs.declared.command.Argument.TheVariants.{Len}
 use Rattle.ossl_commands.specs.declared.command.Data.{Data}
@@ -27,6 +27,10 @@ declared_by lengths argument = given_length lengths (data_in argument)
 
 abbrev pub declared_in : List ℕ → Line → ℕ
 declared_in lengths line = sum_by (declared_by lengths) (arguments_in line.command)
+
+-- an amount as a number of 64 bits holds it: one that is greater than all of these is held as the greatest
+abbrev pub capped : ℕ → ℕ
+capped n = min n (2 ^ 64 - 1)
 
 -- the first of these amounts that passes its limit
 abbrev pub first_passed : List (ℕ × Limit) → Option Limit

@@ -1,5 +1,5 @@
 -- The commands that a text says, or its first faulty line with the first kind of fault that applies.
-use Rattle.std.specs.Prelude.{ℕ, ◌≡◌, ⊤, ◌+◌, Bool, true, false, not, ◌&&◌, ◌||◌, Option, Some, None, is_some, is_none, unwrap_or, ok_or, option_and_then, Result, Ok, Err, List, [], ◌∷◌, ◌++◌, length, drop, slice_get, codes, if◌then◌else◌}
+use Rattle.std.specs.Prelude.{ℕ, ◌≡◌, ⊤, ◌+◌, Bool, true, false, not, ◌&&◌, ◌||◌, Option, Some, None, is_some, is_none, unwrap_or, ok_or, option_and_then, Result, Ok, Err, List, [], ◌∷◌, ◌++◌, drop, slice_get, codes, if◌then◌else◌}
 use Rattle.std.specs.List.{list_any, list_all}
 use Rattle.std.specs.Str.{bytes_eq}
 use Rattle.std.specs.Str.Lines.{lines}
@@ -12,6 +12,8 @@ use Rattle.ossl_commands.specs.declared.kind.LineKind.{LineKind}
 use Rattle.ossl_commands.specs.declared.kind.LineKind.TheVariants as kinds
 use Rattle.ossl_commands.specs.declared.kind.LineRefused.{LineRefused}
 use Rattle.ossl_commands.specs.declared.kind.LineRefused.TheVariants.{Faulty, NoMemory}
+use Rattle.ossl_commands.specs.declared.kind.ScriptRefused.{ScriptRefused}
+use Rattle.ossl_commands.specs.declared.kind.ScriptRefused.TheVariants as refusals
 use Rattle.ossl_commands.specs.declared.table.Colon.{Colon}
 use Rattle.ossl_commands.specs.declared.table.Colon.TheVariants.{Never, May, Must}
 use Rattle.ossl_commands.specs.declared.table.Others.{Others}
@@ -120,6 +122,10 @@ numbered number (Ok said) later = later said.files >>= λ more. Ok (record {
 })
 numbered number (Err kind) later = Err (record { number = number; kind = kind })
 
+-- commands before others, or the fault of these
+abbrev pub continued : List Line → Result Commands Fault → Result Commands Fault
+continued done later = later >>= λ more. Ok (record { lines = done ++ more.lines; files = more.files })
+
 -- the lines from this number on, where these files are named before
 abbrev pub commands_from : ℕ → Files → List (List ℕ) → Result Commands Fault
 commands_from number files [] = Ok (record { lines = []; files = files })
@@ -131,3 +137,13 @@ commands_from number files (line ∷ lines) =
 -- the numbered commands of a text with the files that they name, or its first faulty line; lines are numbered from 1, and skipped ones count
 abbrev pub commands_of : List ℕ → Result Commands Fault
 commands_of text = commands_from 1 [] (lines text)
+
+-- the refusal of a text whose line of this number was refused
+abbrev pub refusal_at : ℕ → LineRefused → ScriptRefused
+refusal_at number (Faulty kind) = refusals.Line number kind
+refusal_at number NoMemory = refusals.NoMemory
+
+-- why a text was refused: its first faulty line, or want of memory, which says nothing of it
+abbrev pub IsRefusal : ScriptRefused → Result Commands Fault → Type 0
+IsRefusal (refusals.Line number kind) said = said ≡ Err (record { number = number; kind = kind })
+IsRefusal refusals.NoMemory said = ⊤

@@ -8,3 +8,4 @@ pub mod Judging
 pub mod Counts
 pub mod Fits
 pub mod Contents
+pub mod View

@@ -1,5 +1,5 @@
 -- The text of one line: which bytes it may hold, its words, and the query behind `:`.
-use Rattle.std.specs.Prelude.{ℕ, ◌==◌, nat_lt, Bool, true, ◌&&◌, ◌||◌, Option, Some, None, List, [], ◌∷◌, length, filter, if◌then◌else◌}
+use Rattle.std.specs.Prelude.{ℕ, ◌==◌, nat_lt, Bool, true, false, not, ◌&&◌, ◌||◌, Option, Some, None, List, [], ◌∷◌, length, filter, if◌then◌else◌}
 use Rattle.std.specs.Int.{is_in_range}
 use Rattle.std.specs.List.{slice_split}
 use Rattle.ossl_property.specs.Bytes.{past}
@@ -7,6 +7,13 @@ use Rattle.ossl_property.specs.Bytes.{past}
 -- spaces and tabs
 abbrev pub is_blank : ℕ → Bool
 is_blank byte = byte == 32 || byte == 9
+
+abbrev pub is_within_word : ℕ → Bool
+is_within_word byte = not (is_blank byte)
+
+-- a line feed ends a line
+abbrev pub is_within_line : ℕ → Bool
+is_within_line byte = not (byte == 10)
 
 -- what a line may hold that is not skipped: bytes 9 and 32 to 126
 abbrev pub is_allowed : ℕ → Bool
@@ -26,15 +33,20 @@ abbrev pub ends_word : List ℕ → Bool
 ends_word [] = true
 ends_word (byte ∷ text) = is_blank byte
 
--- the text before the first word that is `:`, or all of it; at_start says that a word may begin here
+-- the text begins with the word `:`; at_start says that a word may begin here
+abbrev pub starts_query : Bool → List ℕ → Bool
+starts_query at_start [] = false
+starts_query at_start (byte ∷ text) = at_start && byte == 58 && ends_word text
+
+-- the text before the first word that is `:`, or all of it
 abbrev pub before_query : Bool → List ℕ → List ℕ
 before_query at_start [] = []
-before_query at_start (byte ∷ text) = if at_start && byte == 58 && ends_word text then [] else byte ∷ before_query (is_blank byte) text
+before_query at_start (byte ∷ text) = if starts_query at_start (byte ∷ text) then [] else byte ∷ before_query (is_blank byte) text
 
 -- the query text: all that stands behind that word, spaces included
 abbrev pub query_text : Bool → List ℕ → Option (List ℕ)
 query_text at_start [] = None
-query_text at_start (byte ∷ text) = if at_start && byte == 58 && ends_word text then Some text else query_text (is_blank byte) text
+query_text at_start (byte ∷ text) = if starts_query at_start (byte ∷ text) then Some text else query_text (is_blank byte) text
 
 -- what stands between spaces and tabs
 abbrev pub words_of : List ℕ → List (List ℕ)

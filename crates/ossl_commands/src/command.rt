@@ -179,14 +179,3 @@ pub struct Line {
     pub caller: u32,
     pub command: Command,
 }
-
-impl Line {
-    ghost use Rattle.std.specs.Prelude.{nat_eq};
-
-    /// Whether the line is this caller's.
-    pub fn is_of(&self, caller: u32) -> bool
-        ensures own { result ≡ nat_eq self.now.caller caller }
-    {
-        self.caller == caller
-    }
-}

@@ -89,7 +89,7 @@ fn read_form(
 
 impl Data {
     /// The data that a word says: `hex:DIGITS`, `text:BYTES`, `rep:N:HH` or `file:NAME`.
-    pub fn of(
+    pub(crate) fn of(
         alloc: Global,
         files: &mut NamedFiles,
         word: &[u8],

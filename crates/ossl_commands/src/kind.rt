@@ -1,6 +1,7 @@
 //! Why a text is no batch.
 
 ghost use Rattle.std.specs.Prelude.{◌≡◌};
+ghost use Rattle.ossl_commands.specs.Judging.{refusal_at};
 ghost use Rattle.ossl_commands.specs.Kind.{kind_word};
 ghost use Rattle.ossl_commands.specs.declared.kind.LineRefused.{LineRefused};
 ghost use Rattle.ossl_commands.specs.declared.kind.ScriptRefused.TheVariants.{NoMemory};
@@ -48,6 +49,14 @@ pub enum ScriptRefused {
     NoMemory,
 }
 
+impl<T: Drop> From<AllocFailed<T>> for ScriptRefused {
+    ghost from_gives = { λ _ e. e ≡ NoMemory };
+
+    fn from(_e: AllocFailed<T>) -> ScriptRefused {
+        ScriptRefused::NoMemory
+    }
+}
+
 impl From<AllocError> for ScriptRefused {
     ghost from_gives = { λ _ e. e ≡ NoMemory };
 
@@ -61,6 +70,18 @@ impl From<AllocError> for ScriptRefused {
 pub enum LineRefused {
     Faulty(LineKind),
     NoMemory,
+}
+
+impl LineRefused {
+    /// Why a text is no batch whose line of this number was refused.
+    pub fn at(self, number: u64) -> ScriptRefused
+        ensures { result ≡ refusal_at number self }
+    {
+        match self {
+            LineRefused::Faulty(kind) => ScriptRefused::Line { number, kind },
+            LineRefused::NoMemory => ScriptRefused::NoMemory,
+        }
+    }
 }
 
 impl From<AllocError> for LineRefused {
