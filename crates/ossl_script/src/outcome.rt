@@ -6,10 +6,10 @@ ghost use Rattle.ossl_script.specs.Outcome.{begin_text, bytes_text, finish_text,
 
 use ossl_base::digits::put_hex;
 use ossl_base::text::{Bytes, Text};
-use ossl_state::put::put_numbered;
-use ossl_state::{Reply, put_reply};
 use ossl_codes::Param;
 use ossl_op::{BeginRefused, FinishRefused};
+use ossl_state::put::put_numbered;
+use ossl_state::{Reply, put_reply};
 use std::alloc::{AllocError, Global};
 
 /// What comes of a command.

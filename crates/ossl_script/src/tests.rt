@@ -1,7 +1,7 @@
 use crate::{Held, Next, Outcome, TokenKind};
 use ossl_base::text::{Bytes, Text};
-use ossl_state::{Call, Reply};
 use ossl_op::{BeginRefused, FinishRefused};
+use ossl_state::{Call, Reply};
 use std::test::Fail;
 
 // Each sort of result once, in its printed form.
