@@ -9,3 +9,6 @@ mod places;
 
 pub use cache::QueryCache;
 pub use key::{Kept, Key};
+
+#[cfg(test)]
+mod tests;
