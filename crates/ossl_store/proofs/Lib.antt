@@ -4,4 +4,5 @@ pub mod Ascending
 pub mod Picking
 pub mod Offers
 pub mod Choosing
+pub mod Placed
 pub mod Greatest

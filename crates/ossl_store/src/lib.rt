@@ -11,3 +11,6 @@ mod store;
 
 pub use offered::Offered;
 pub use store::Store;
+
+#[cfg(test)]
+mod tests;
