@@ -82,23 +82,24 @@ candidates-active : (born : List Born) (order : List Active) (op : Operation) (o
 candidates-active born order op None p all = refl
 candidates-active born order op (Some number) p all = numbered-active born op number p order all
 
--- the best method is one of an active instance
-pub best-active : (s : State) (l : ℕ) (op : Operation) (name : List ℕ) (query : List Clause) (chosen : Choice) → best_method s l op name query ≡ Some chosen → is_active chosen.instance (lib_at s l).order ≡ true
-best-active s l op name query chosen e = of_best (best_from None (merged_query s l query) (candidates s l op name)) all e
+-- what holds of each active provider and its instance holds of the best method's
+pub best_holds : (s : State) (l : ℕ) (op : Operation) (name : List ℕ) (query : List Clause) (chosen : Choice) (p : ℕ → ℕ → Bool) → list_all (λ a. p a.place a.instance) (lib_at s l).order ≡ true →
+    best_method s l op name query ≡ Some chosen → p chosen.place chosen.instance ≡ true
+best_holds s l op name query chosen p each e = of_best (best_from None (merged_query s l query) (candidates s l op name)) all e
   where
-    order : List Active
-    order = (lib_at s l).order
+    all : passes (λ ch. p ch.place ch.instance) (best_from None (merged_query s l query) (candidates s l op name)) ≡ true
+    all = best_from-passes (λ ch. p ch.place ch.instance) None (merged_query s l query) (candidates s l op name) refl
+        (candidates-active s.born (lib_at s l).order op (number_of (lib_at s l).groups name) (λ a. p a.place a.instance) each)
 
-    each : list_all (λ a. is_active a.instance (lib_at s l).order) (lib_at s l).order ≡ true
-    each = all_among (λ a. is_active a.instance (lib_at s l).order) (lib_at s l).order (λ a among. among (λ a'. nat_eq a'.instance a.instance) (eq-eqb a.instance a.instance refl))
-
-    all : passes (λ ch. is_active ch.instance (lib_at s l).order) (best_from None (merged_query s l query) (candidates s l op name)) ≡ true
-    all = best_from-passes (λ ch. is_active ch.instance (lib_at s l).order) None (merged_query s l query) (candidates s l op name) refl
-        (candidates-active s.born (lib_at s l).order op (number_of (lib_at s l).groups name) (λ a. is_active a.instance (lib_at s l).order) each)
-
-    of_best : (o : Option Scored) → passes (λ ch. is_active ch.instance (lib_at s l).order) o ≡ true → option_map (λ (b : Scored). b.choice) o ≡ Some chosen → is_active chosen.instance (lib_at s l).order ≡ true
+    of_best : (o : Option Scored) → passes (λ ch. p ch.place ch.instance) o ≡ true → option_map (λ (b : Scored). b.choice) o ≡ Some chosen → p chosen.place chosen.instance ≡ true
     of_best None h e = cc
     of_best (Some b) h e = let same : b.choice ≡ chosen = cc in rw (← same) h
+
+-- the best method is one of an active instance
+pub best-active : (s : State) (l : ℕ) (op : Operation) (name : List ℕ) (query : List Clause) (chosen : Choice) → best_method s l op name query ≡ Some chosen → is_active chosen.instance (lib_at s l).order ≡ true
+best-active s l op name query chosen e = best_holds s l op name query chosen (λ k n. is_active n (lib_at s l).order)
+    (all_among (λ a. is_active a.instance (lib_at s l).order) (lib_at s l).order (λ a among. among (λ a'. nat_eq a'.instance a.instance) (eq-eqb a.instance a.instance refl)))
+    e
 
 -- an instance that is active in a library context was started there
 active-lib : (born : List Born) (l n : ℕ) (order : List Active) → list_all (is_paired born l) order ≡ true → is_active n order ≡ true → list_any (λ b. nat_eq b.number n && nat_eq b.lib l) born ≡ true

@@ -12,3 +12,6 @@ pub mod NextLaws
 pub mod WorkedRows
 pub mod WorkedLoads
 pub mod WorkedRules
+pub mod OrderLaws
+pub mod PlaceLaws
+pub mod OrderedLaws

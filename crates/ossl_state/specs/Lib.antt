@@ -12,3 +12,4 @@ pub mod Text
 pub mod Lends
 pub mod Mark
 pub mod Next
+pub mod Ordered

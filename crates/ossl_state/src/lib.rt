@@ -6,6 +6,7 @@
 pub mod activation;
 pub mod best;
 pub mod call;
+pub mod counts;
 pub mod defaults;
 pub mod element;
 pub mod going;
