@@ -49,28 +49,28 @@ Rises-filter p n (line ∷ lines) rises = elim (cases_Bool (p line)) [
   | inr goes ↦ rw goes (Rises-filter p n lines (Rises-from line.number n lines (omega (arith, rises.0)) rises.1))
 ]
 
-commands-rise : (number n : ℕ) (files : Files) (texts : List (List ℕ)) (said : Commands) → n < number → commands_from number files texts ≡ Ok said → Rises n said.lines
-commands-rise number n files [] said less is =
+commands-rise : (number n : ℕ) (files : Files) (texts : List (List ℕ)) (read : Commands) → n < number → commands_from number files texts ≡ Ok read → Rises n read.lines
+commands-rise number n files [] read less is =
     let none : Commands = record { lines = []; files = files } in
-    let same : none ≡ said = cc in
+    let same : none ≡ read = cc in
     subst (λ (c : Commands). Rises n c.lines) same tt
-commands-rise number n files (text ∷ texts) said less is = elim (cases_Bool (is_skipped text)) [
-  | inl skipped ↦ commands-rise (number + 1) n files texts said (omega (arith, less)) (rw skipped at is)
+commands-rise number n files (text ∷ texts) read less is = elim (cases_Bool (is_skipped text)) [
+  | inl skipped ↦ commands-rise (number + 1) n files texts read (omega (arith, less)) (rw skipped at is)
   | inr told ↦ of (judged files text) (λ named more was. commands-rise (number + 1) number named texts more (omega arith) was) (rw told at is)
 ]
   where
     step : (told : Said) → ((more : Commands) → commands_from (number + 1) told.files texts ≡ Ok more → Rises number more.lines)
         → (r : Result Commands Fault) → commands_from (number + 1) told.files texts ≡ r
-        → r >>= (λ more. Ok (record { lines = record { number = number; caller = told.caller; command = told.command } ∷ more.lines; files = more.files })) ≡ Ok said → Rises n said.lines
+        → r >>= (λ more. Ok (record { lines = record { number = number; caller = told.caller; command = told.command } ∷ more.lines; files = more.files })) ≡ Ok read → Rises n read.lines
     step told behind (Err fault) was is = cc
     step told behind (Ok more) was is =
         let whole : Commands = record { lines = record { number = number; caller = told.caller; command = told.command } ∷ more.lines; files = more.files } in
-        let same : whole ≡ said = cc in
+        let same : whole ≡ read = cc in
         subst (λ (c : Commands). Rises n c.lines) same (less, behind more was)
 
     of : (judged : Result Said LineKind)
         → ((named : Files) (more : Commands) → commands_from (number + 1) named texts ≡ Ok more → Rises number more.lines)
-        → numbered number judged (λ named. commands_from (number + 1) named texts) ≡ Ok said → Rises n said.lines
+        → numbered number judged (λ named. commands_from (number + 1) named texts) ≡ Ok read → Rises n read.lines
     of (Err kind) behind is = cc
     of (Ok told) behind is = step told (behind told.files) (commands_from (number + 1) told.files texts) refl is
 
