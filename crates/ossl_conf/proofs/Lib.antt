@@ -1,5 +1,20 @@
+mod SaidLaws
+mod SettleLaws
+mod EndLaws
+mod ColonLaws
+mod LineLaws
+mod PartLaws
+mod RowLaws
+mod PlaceLaws
+mod ConfLaws
+mod MapLaws
+mod AnswerLaws
+mod NoFileLaws
+mod ExactLaws
+mod ReadLaws
 pub mod Examples
 mod LineRows
 mod ValueRows
 mod SettingRows
 mod WholeRows
+mod IncludedRows

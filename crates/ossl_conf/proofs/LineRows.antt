@@ -3,7 +3,7 @@ use Rattle.std.proofs.Common.{◌≡◌, Some, None, Ok, Err, [], ◌∷◌, cod
 use Rattle.ossl_conf.specs.declared.kind.ConfKind.TheVariants.{Bracket, Directive, Equals, Name}
 use Rattle.ossl_conf.specs.declared.refusal.ConfRefused.TheVariants.{Line}
 use Rattle.ossl_conf.specs.Lines.{logical_lines}
-use Rattle.ossl_conf.specs.Reading.{said, nothing, opens, sets, faulty}
+use Rattle.ossl_conf.specs.Said.{said, nothing, opens, sets, includes, faulty}
 use Rattle.ossl_conf.proofs.Examples.{x_of}
 
 -- a line feed, and a carriage return before one, end a line; a carriage return by itself is a byte
@@ -42,8 +42,24 @@ no_bracket = refl
 no_name : said (codes "[ ]") ≡ faulty Bracket
 no_name = refl
 
-directive : said (codes " .include x") ≡ faulty Directive
+-- a file is named behind blanks and at most one `=`; its name is a value
+included : said (codes " .include x # y") ≡ includes (codes "x")
+included = refl
+
+included_equals : said (codes ".include\t= = 'x # y'") ≡ includes (codes "= 'x # y'")
+included_equals = refl
+
+included_nothing : said (codes ".include=") ≡ includes []
+included_nothing = refl
+
+no_file : said (codes ".include # x") ≡ faulty Directive
+no_file = refl
+
+directive : said (codes " .pragma = x") ≡ faulty Directive
 directive = refl
+
+longer_word : said (codes ".includes x") ≡ faulty Directive
+longer_word = refl
 
 no_equals : said (codes "x") ≡ faulty Equals
 no_equals = refl

@@ -3,7 +3,8 @@ use Rattle.std.proofs.Common.{◌≡◌, ℕ, List, ◌++◌, true, false, Some,
 use Rattle.ossl_conf.specs.declared.kind.ConfKind.TheVariants.{Equals}
 use Rattle.ossl_conf.specs.declared.refusal.ConfRefused.{ConfRefused}
 use Rattle.ossl_conf.specs.declared.refusal.ConfRefused.TheVariants.{Line, NoSection, BadActivate}
-use Rattle.ossl_conf.specs.Settings.{Asked, asked_of, is_on}
+use Rattle.ossl_conf.specs.Settings.{Asked, is_on}
+use Rattle.ossl_conf.proofs.Examples.{asked_of}
 
 -- the providers section is p, with these lines behind it
 abbrev with_providers : List ℕ → Result Asked ConfRefused

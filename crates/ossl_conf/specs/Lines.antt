@@ -1,25 +1,23 @@
 -- A text as logical lines.
-use Rattle.std.specs.Prelude.{ℕ, ◌+◌, ◌-◌, ◌==◌, Bool, List, [], ◌∷◌, ◌++◌, length, take, slice_index, if◌then◌else◌}
-use Rattle.std.specs.Str.{byte}
+use Rattle.std.specs.Prelude.{ℕ, ◌+◌, ◌-◌, ◌==◌, Bool, List, [], ◌∷◌, ◌++◌, length, take, drop, if◌then◌else◌}
+use Rattle.std.specs.List.{slice_split}
+use Rattle.std.specs.Str.{byte, bytes_eq}
 
 -- a logical line and the number of its first line, counted from 1
 pub record LogicalLine : Type 0 where
   pub number : ℕ
   pub text : List ℕ
 
--- a byte at the front of the first piece; a line feed ends a piece of its own
-abbrev pub with_byte : ℕ → List (List ℕ) → List (List ℕ)
-with_byte b [] = []
-with_byte b (piece ∷ pieces) = if b == byte "\n" then [] ∷ piece ∷ pieces else (b ∷ piece) ∷ pieces
+abbrev pub is_line_feed : ℕ → Bool
+is_line_feed b = b == byte "\n"
 
 -- the pieces of a text between its line feeds: one more than there are line feeds
 abbrev pub pieces : List ℕ → List (List ℕ)
-pieces [] = [] ∷ []
-pieces (b ∷ text) = with_byte b (pieces text)
+pieces text = slice_split is_line_feed text
 
--- the text's last byte is this one, which is not 0
+-- the text's last byte is this one
 abbrev pub ends_in : ℕ → List ℕ → Bool
-ends_in b text = slice_index text (length text - 1) == b
+ends_in b text = bytes_eq (drop (length text - 1) text) (b ∷ [])
 
 -- all but the last byte
 abbrev pub without_last : List ℕ → List ℕ
@@ -29,20 +27,32 @@ without_last text = take (length text - 1) text
 abbrev pub without_return : List ℕ → List ℕ
 without_return piece = if ends_in (byte "\r") piece then without_last piece else piece
 
--- a line before the logical lines behind it: where it has a `\` right before its end, both go, and the next line is joined.
--- The last piece of a text has no end
-abbrev pub before_lines : ℕ → List ℕ → List LogicalLine → List LogicalLine
-before_lines number piece [] = record { number = number; text = piece } ∷ []
-before_lines number piece (next ∷ lines) =
-    let line = without_return piece in
-    if ends_in (byte "\\") line then record { number = number; text = without_last line ++ next.text } ∷ lines
-    else record { number = number; text = line } ∷ next ∷ lines
+-- a line has a `\` right before its end: both go, and the next line is joined
+abbrev pub is_joined : List ℕ → Bool
+is_joined line = ends_in (byte "\\") line
 
--- the logical lines of the pieces from this number on
-abbrev pub lines_from : ℕ → List (List ℕ) → List LogicalLine
-lines_from number [] = []
-lines_from number (piece ∷ pieces) = before_lines number piece (lines_from (number + 1) pieces)
+-- what is begun when a line follows it: the number of its first line, and its text so far
+abbrev pub begun_after : LogicalLine → ℕ → List ℕ → LogicalLine
+begun_after begun next line =
+    if is_joined line then record begun { text = begun.text ++ without_last line } else record { number = next; text = [] }
+
+-- the logical line that this line ends, where it has no `\` right before its end
+abbrev pub ended_by : LogicalLine → List ℕ → List LogicalLine
+ended_by begun line = if is_joined line then [] else record begun { text = begun.text ++ line } ∷ []
+
+-- the logical lines of the pieces that are left, where one is begun, and the next piece has this number. The last piece of a
+-- text has no end
+abbrev pub lines_from : LogicalLine → ℕ → List (List ℕ) → List LogicalLine
+lines_from begun number [] = []
+lines_from begun number (piece ∷ []) = record begun { text = begun.text ++ piece } ∷ []
+lines_from begun number (piece ∷ next ∷ pieces) =
+    let line = without_return piece in
+    ended_by begun line ++ lines_from (begun_after begun (number + 1) line) (number + 1) (next ∷ pieces)
+
+-- the logical lines of a text whose first line has this number
+abbrev pub lines_at : ℕ → List ℕ → List LogicalLine
+lines_at number text = lines_from (record { number = number; text = [] }) number (pieces text)
 
 -- the logical lines of a text
 abbrev pub logical_lines : List ℕ → List LogicalLine
-logical_lines text = lines_from 1 (pieces text)
+logical_lines text = lines_at 1 text

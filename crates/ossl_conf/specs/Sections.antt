@@ -16,7 +16,7 @@ Sections = List (List ℕ × Entries)
 abbrev pub changed : {A : Type 0} → (A → A) → A → List ℕ → List (List ℕ × A) → List (List ℕ × A)
 changed change new name [] = (name, change new) ∷ []
 changed change new name (entry ∷ entries) =
-    if bytes_eq entry.0 name then (name, change entry.1) ∷ entries else entry ∷ changed change new name entries
+    if bytes_eq name entry.0 then (entry.0, change entry.1) ∷ entries else entry ∷ changed change new name entries
 
 -- the section is there, if only without entries
 abbrev pub with_section : List ℕ → Sections → Sections

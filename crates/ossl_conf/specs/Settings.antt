@@ -1,16 +1,15 @@
 -- The settings of a configuration, read from its sections when all lines were accepted.
-use Rattle.std.specs.Prelude.{◌≡◌, ℕ, Bool, true, false, Option, Some, None, Result, Ok, Err, List, [], ◌∷◌, ◌++◌, codes, unwrap_or, if◌then◌else◌}
+use Rattle.std.specs.Prelude.{ℕ, Bool, true, false, Option, Some, None, Result, Ok, Err, List, [], ◌∷◌, ◌++◌, codes, unwrap_or, if◌then◌else◌}
 use Rattle.std.specs.List.{list_any}
 use Rattle.std.specs.Option.{ok_or}
 use Rattle.std.specs.Str.{str_eq_ignore_ascii_case}
 use Rattle.ossl_property.specs.declared.clause.Clause.{Clause}
-use Rattle.ossl_property.specs.Grammar.{IsQuery}
-use Rattle.ossl_property.specs.Fault.{IsQueryFault}
+use Rattle.ossl_property.specs.Said.{query_said}
 use Rattle.ossl_conf.specs.declared.refusal.ConfRefused.{ConfRefused}
 use Rattle.ossl_conf.specs.declared.refusal.ConfRefused.TheVariants.{NoSection, BadActivate, BadQuery}
 use Rattle.ossl_conf.specs.View.{SettingsView}
 use Rattle.ossl_conf.specs.Sections.{Entries, Sections, found, value_in, default_section}
-use Rattle.ossl_conf.specs.Reading.{◌>>=◌, sections_of}
+use Rattle.ossl_conf.specs.Reading.{◌>>=◌, Answering, sections_of}
 
 -- the words that are on
 abbrev pub on_words : List (List ℕ)
@@ -80,28 +79,25 @@ asked_by sections (Some name) = named sections name >>= λ init. init_asked sect
 abbrev pub asked_in : Sections → Result Asked ConfRefused
 asked_in sections = asked_by sections (value_in sections default_section (codes "openssl_conf"))
 
--- what a text asks for, or why it is refused before its default query is read
-abbrev pub asked_of : List ℕ → Result Asked ConfRefused
-asked_of text = sections_of text >>= λ sections. asked_in sections
+-- the query that a text says, or the place of its first fault
+abbrev pub query_of : Result (List Clause) ℕ → Result (Option (List Clause)) ConfRefused
+query_of (Ok clauses) = Ok (Some clauses)
+query_of (Err place) = Err (BadQuery place)
 
--- the default query is the one that its text says; without a text there is none
-abbrev pub IsDefault : Option (List ℕ) → Option (List Clause) → Type 0
-IsDefault None None = Unit {0}
-IsDefault None (Some clauses) = ⊥
-IsDefault (Some text) None = ⊥
-IsDefault (Some text) (Some clauses) = IsQuery text clauses
+-- the default query, where a text says one
+abbrev pub default_query : Option (List ℕ) → Result (Option (List Clause)) ConfRefused
+default_query None = Ok None
+default_query (Some text) = query_of (query_said text)
 
--- the settings are those that are asked for
-pub record AreSettings (asked : Asked) (settings : SettingsView) : Type 0 where
-  pub activations : settings.activations ≡ asked.activations
-  pub default_query : IsDefault asked.properties settings.default_query
+-- the settings that are asked for. The default query is read last
+abbrev pub settled : Asked → Result SettingsView ConfRefused
+settled asked =
+    default_query asked.properties >>= λ query. Ok (record { activations = asked.activations; default_query = query })
 
--- the text of the default query is no query, and its first fault has this place
-abbrev pub HasQueryFault : Asked → ℕ → Type 0
-HasQueryFault asked place = (text : List ℕ) × (asked.properties ≡ Some text) × IsQueryFault text place
+-- the settings of all sections
+abbrev pub settings_in : Sections → Result SettingsView ConfRefused
+settings_in sections = asked_in sections >>= settled
 
--- the answer to a text: its settings, or why it is refused. The default query is read last
-abbrev pub IsAnswer : List ℕ → Result SettingsView ConfRefused → Type 0
-IsAnswer text (Ok settings) = (asked : Asked) × (asked_of text ≡ Ok asked) × AreSettings asked settings
-IsAnswer text (Err (BadQuery place)) = (asked : Asked) × (asked_of text ≡ Ok asked) × HasQueryFault asked place
-IsAnswer text (Err refusal) = asked_of text ≡ Err refusal
+-- the settings of a text, or why it is refused, where files answer so
+abbrev pub settings_of : Answering → List ℕ → Result SettingsView ConfRefused
+settings_of files text = sections_of files text >>= settings_in

@@ -1,7 +1,7 @@
 -- A value: quoted parts, escapes and variables.
-use Rattle.std.specs.Prelude.{ℕ, zero, suc, ◌==◌, nat_eq, Bool, Option, Some, None, Result, Ok, Err, List, [], ◌∷◌, ◌++◌, length, drop, codes, if◌then◌else◌}
-use Rattle.std.specs.List.{list_any, starts_with, before_first, after_first, take_while, prefix_len}
-use Rattle.std.specs.Option.{ok_or}
+use Rattle.std.specs.Prelude.{ℕ, zero, suc, ◌+◌, ◌==◌, nat_eq, Option, Some, None, Result, Ok, Err, List, [], ◌∷◌, ◌++◌, length, take, drop, codes, if◌then◌else◌, Bool}
+use Rattle.std.specs.List.{list_any, starts_with, before_first, prefix_len}
+use Rattle.std.specs.Option.{ok_or, option_map}
 use Rattle.std.specs.Str.{byte}
 use Rattle.ossl_property.specs.Bytes.{is_quote, is_word_byte}
 
@@ -16,69 +16,71 @@ abbrev pub escaped : ℕ → ℕ
 escaped b =
     if b == byte "n" then 10 else if b == byte "r" then 13 else if b == byte "t" then 9 else if b == byte "b" then 8 else b
 
+-- a part, and how many of the bytes behind its first one belong to it
+abbrev pub Taken : Type 0
+Taken = Part × ℕ
+
 -- behind a quote: the bytes up to the next same quote or the end
-abbrev pub quoted_at : ℕ → List ℕ → Part × List ℕ
-quoted_at quote text = (bytes (before_first (nat_eq quote) text), after_first (nat_eq quote) text)
+abbrev pub quoted_at : ℕ → List ℕ → Taken
+quoted_at quote text = let inner = before_first (λ b. b == quote) text in (bytes inner, length inner + 1)
 
 -- behind a `\`
-abbrev pub escaped_at : List ℕ → Part × List ℕ
-escaped_at [] = (bytes [], [])
-escaped_at (b ∷ text) = (bytes (escaped b ∷ []), text)
+abbrev pub escaped_at : List ℕ → Taken
+escaped_at [] = (bytes [], 0)
+escaped_at (b ∷ text) = (bytes (escaped b ∷ []), 1)
 
 -- behind an opening bracket: all bytes up to the closing one, or all that is left where that is missing
-abbrev pub bracketed_at : ℕ → List ℕ → Part × List ℕ
+abbrev pub bracketed_at : ℕ → List ℕ → Taken
 bracketed_at close text =
-    if list_any (nat_eq close) text then (variable (before_first (nat_eq close) text), after_first (nat_eq close) text)
-    else (unclosed text, [])
+    let name = before_first (λ b. b == close) text in
+    if list_any (λ b. b == close) text then (variable name, length name + 2) else (unclosed text, length text + 1)
 
 -- `::` comes next
 abbrev pub begins_with_colons : List ℕ → Bool
 begins_with_colons text = starts_with nat_eq text (codes "::")
 
--- a bare name: the longest run of letters, digits and `_`, and, where `::` follows it, that and the longest run behind it
-abbrev pub bare_at : List ℕ → Part × List ℕ
-bare_at text =
-    let run = take_while is_word_byte text in
-    let behind = drop (prefix_len is_word_byte text) text in
-    let next = drop 2 behind in
-    if begins_with_colons behind then (variable (run ++ codes "::" ++ take_while is_word_byte next), drop (prefix_len is_word_byte next) next)
-    else (variable run, behind)
+-- how long a bare name is: the longest run of letters, digits and `_`, and, where `::` follows it, that and the longest run
+-- behind it
+abbrev pub bare_len : List ℕ → ℕ
+bare_len text =
+    let run = prefix_len is_word_byte text in
+    let behind = drop run text in
+    if begins_with_colons behind then run + 2 + prefix_len is_word_byte (drop 2 behind) else run
 
 -- behind a `$`
-abbrev pub variable_at : List ℕ → Part × List ℕ
-variable_at [] = (variable [], [])
+abbrev pub variable_at : List ℕ → Taken
+variable_at [] = (variable [], 0)
 variable_at (b ∷ text) =
     if b == byte "{" then bracketed_at (byte "}") text
     else if b == byte "(" then bracketed_at (byte ")") text
-    else bare_at (b ∷ text)
+    else (variable (take (bare_len (b ∷ text)) (b ∷ text)), bare_len (b ∷ text))
 
--- the first part of a value, from its first byte on, and what follows it
-abbrev pub part_at : ℕ → List ℕ → Part × List ℕ
+-- the first part of a value, by its first byte and what stands behind that
+abbrev pub part_at : ℕ → List ℕ → Taken
 part_at b text =
     if is_quote b then quoted_at b text
     else if b == byte "\\" then escaped_at text
     else if b == byte "$" then variable_at text
-    else (bytes (b ∷ []), text)
+    else (bytes (b ∷ []), 0)
 
--- the parts of a value; fuel bounds their number
-abbrev pub parts_at : ℕ → List ℕ → List Part
-parts_at fuel [] = []
-parts_at zero (b ∷ text) = []
-parts_at (suc fuel) (b ∷ text) = let part = part_at b text in part.0 ∷ parts_at fuel part.1
+-- the parts of a value, behind so many bytes that belong to the part before
+abbrev pub parts_past : ℕ → List ℕ → List Part
+parts_past taken [] = []
+parts_past (suc taken) (b ∷ text) = parts_past taken text
+parts_past zero (b ∷ text) = (part_at b text).0 ∷ parts_past (part_at b text).1 text
 
 -- the parts of a whole value
 abbrev pub parts : List ℕ → List Part
-parts text = parts_at (length text) text
+parts text = parts_past 0 text
 
--- the cut of a name that has one more byte in front
-abbrev pub behind_byte : ℕ → Option (List ℕ × List ℕ) → Option (List ℕ × List ℕ)
-behind_byte b None = None
-behind_byte b (Some cut) = Some (b ∷ cut.0, cut.1)
+-- where the first `::` stands in a name, of which the bytes from a place on are given
+abbrev pub colons_from : ℕ → List ℕ → Option ℕ
+colons_from at [] = None
+colons_from at (b ∷ text) = if begins_with_colons (b ∷ text) then Some at else colons_from (at + 1) text
 
 -- the part of a name before the first `::` and the part behind it, where there is one
 abbrev pub cut_at_colons : List ℕ → Option (List ℕ × List ℕ)
-cut_at_colons [] = None
-cut_at_colons (b ∷ text) = if begins_with_colons (b ∷ text) then Some ([], drop 1 text) else behind_byte b (cut_at_colons text)
+cut_at_colons name = option_map (λ at. (take at name, drop (at + 2) name)) (colons_from 0 name)
 
 -- two texts joined, or the first refusal
 abbrev pub joined : Result (List ℕ) (List ℕ) → Result (List ℕ) (List ℕ) → Result (List ℕ) (List ℕ)

@@ -1,10 +1,10 @@
 //! The error line of a refusal.
 
 ghost use Rattle.std.specs.Prelude.{◌≡◌, ◌++◌, IfOk, OnErr, OnOk};
-ghost use Rattle.ossl_conf.specs.Refused.{refusal_text, shown, shown_byte};
+ghost use Rattle.ossl_conf.specs.Refused.{file_text, refusal_text, shown, shown_byte};
 
 use crate::refusal::ConfRefused;
-use ossl_base::put_decimal;
+use ossl_base::{FileRefusal, put_decimal};
 use std::alloc::{AllocError, Global};
 
 /// Appends the error line of a refusal, with its line feed, and nothing for want of memory. A byte of a name or a word
@@ -51,10 +51,25 @@ fn line_of(alloc: Global, refusal: &ConfRefused) -> Result<Vec<u8>, AllocError>
             line.extend_from_slice(b"error configuration query ")?;
             put_decimal(alloc, &mut line, *place)?;
         }
+        ConfRefused::File { refusal, .. } => {
+            line.extend_from_slice(file_text(refusal))?;
+            return Ok(line);
+        }
         ConfRefused::NoMemory => return Ok(line),
     }
     line.push(b'\n')?;
     Ok(line)
+}
+
+// The line of a file that was not read.
+fn file_text(refusal: &FileRefusal) -> &'static [u8]
+    ensures { result.now ≡ file_text refusal.now }
+{
+    match refusal {
+        FileRefusal::Failed => b"error read\n",
+        FileRefusal::TooLong => b"error limit configuration\n",
+        FileRefusal::NoMemory => b"",
+    }
 }
 
 /// Appends the bytes of a name or a word as an error line shows them, each outside 33 to 126 as `?`.
