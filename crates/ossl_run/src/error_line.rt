@@ -1,9 +1,9 @@
 //! The error lines.
 
 ghost use Rattle.std.specs.Prelude.{◌≡◌, ◌++◌, codes, IfOk, OnErr, OnOk};
-ghost use Rattle.ossl_run.specs.ErrorLine.{error_status, error_text};
+ghost use Rattle.ossl_run.specs.ErrorLine.{configuration_status, error_status, error_text, file_status};
 
-use ossl_base::Text;
+use ossl_base::{FileRefusal, Text};
 use ossl_base::digits::put_decimal;
 use ossl_conf::{ConfRefused, put_refusal, put_shown};
 use ossl_script::{Limit, LineKind};
@@ -16,7 +16,7 @@ pub enum ErrorLine {
     Usage,
     /// The input or a file could not be read.
     Read,
-    /// The configuration is refused; want of memory has no line, and the status 9.
+    /// The configuration is refused, or a file that it includes; want of memory has no line, and the status 9.
     Configuration(ConfRefused),
     /// The first faulty line of the batch, counted from 1, and its kind.
     Batch { number: u64, kind: LineKind },
@@ -34,8 +34,7 @@ impl ErrorLine {
         match self {
             ErrorLine::Usage => 2,
             ErrorLine::Read => 3,
-            ErrorLine::Configuration(ConfRefused::NoMemory) => 9,
-            ErrorLine::Configuration(_) => 5,
+            ErrorLine::Configuration(refusal) => configuration_status(refusal),
             ErrorLine::Batch { .. } => 6,
             ErrorLine::Limit(_) => 7,
             ErrorLine::Provider(_) => 8,
@@ -50,6 +49,28 @@ impl ErrorLine {
     {
         let line = line_of(alloc, self)?;
         out.extend_from_slice(line.as_slice())
+    }
+}
+
+/// The status at which a configuration is refused.
+fn configuration_status(refusal: &ConfRefused) -> u8
+    ensures { result ≡ configuration_status refusal.now }
+{
+    match refusal {
+        ConfRefused::File { refusal, .. } => file_status(refusal),
+        ConfRefused::NoMemory => 9,
+        _ => 5,
+    }
+}
+
+/// The status at which a file is refused that a configuration includes.
+fn file_status(refusal: &FileRefusal) -> u8
+    ensures { result ≡ file_status refusal.now }
+{
+    match refusal {
+        FileRefusal::Failed => 3,
+        FileRefusal::TooLong => 7,
+        FileRefusal::NoMemory => 9,
     }
 }
 
