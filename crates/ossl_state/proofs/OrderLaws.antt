@@ -1,5 +1,5 @@
 -- What a step does to the order of one library context.
-use Rattle.std.proofs.Common.{◌≡◌, ℕ, ◌+◌, ◌<◌, Bool, true, false, not, ◌||◌, ◌&&◌, nat_eq, List, [], ◌∷◌, ◌++◌, length, map, refl, sym, ◌∙◌, ap, arith, ◌⊎◌, inl, inr}
+use Rattle.std.proofs.Common.{◌≡◌, ℕ, ◌<◌, Bool, true, false, not, ◌||◌, ◌&&◌, nat_eq, List, [], ◌∷◌, ◌++◌, length, map, refl, sym, ◌∙◌, ap, arith, ◌⊎◌, inl, inr}
 use Rattle.std.proofs.Math.ListN.{length-set}
 use Rattle.std.specs.List.{list_all, list_any, filter}
 use Rattle.std.specs.Prelude.{None, Some}
@@ -46,10 +46,10 @@ stays_more : (kept kept' : Option ℕ) (given given' : List Given) (a : Active) 
     (list_any (λ (g : Given). nat_eq g.place a.place) given ≡ true →
     list_any (λ (g : Given). nat_eq g.place a.place) given' ≡ true) →
     (is_kept kept a.place ≡ true → is_kept kept' a.place ≡ true) → stays_active kept given a ≡ true →
-        stays_active kept' given' a ≡ true
+    stays_active kept' given' a ≡ true
 stays_more kept kept' given given' a by_given by_kept h =
     either_more (list_any (λ (g : Given). nat_eq g.place a.place) given) (is_kept kept a.place)
-        (list_any (λ (g : Given). nat_eq g.place a.place) given') (is_kept kept' a.place) by_given by_kept h
+    (list_any (λ (g : Given). nat_eq g.place a.place) given') (is_kept kept' a.place) by_given by_kept h
 
 -- a box is active in an order, or joins it at its end
 abbrev pub Joins : ℕ → List Active → List Active → Type 0
@@ -68,14 +68,22 @@ module _ (k : ℕ) (old new : List Active) where
   joins_active : Joins k old new → is_active_box k new ≡ true
   joins_active (inl there) = rw there.1 there.0
   joins_active (inr more) =
-      rw (more.2, list_any-append (λ (a : Active). nat_eq a.place k) old
-          (record { place = k; instance = more.0 } ∷ []), eq-eqb k k refl) (grind (arith, common_steps))
+      rw (
+        more.2,
+        list_any-append (λ (a : Active). nat_eq a.place k) old
+            (record { place = k; instance = more.0 } ∷ []),
+        eq-eqb k k refl,
+      ) (grind (arith, common_steps))
 
   joins_more : (j : ℕ) → Joins k old new → is_active_box j old ≡ true → is_active_box j new ≡ true
   joins_more j (inl there) h = rw there.1 h
   joins_more j (inr more) h =
-      rw (more.2, list_any-append (λ (a : Active). nat_eq a.place j) old
-          (record { place = k; instance = more.0 } ∷ []), h) refl
+      rw (
+        more.2,
+        list_any-append (λ (a : Active). nat_eq a.place j) old
+            (record { place = k; instance = more.0 } ∷ []),
+        h,
+      ) refl
 
   joins_all : (p : Active → Bool) → ((n : ℕ) → p (record { place = k; instance = n }) ≡ true) → Joins k old new →
       list_all p old ≡ true → list_all p new ≡ true
@@ -112,9 +120,12 @@ activation_lib facts s l k within = elim (cases_Bool (is_active_box k (lib_at s 
         let grouped = with_groups s l groups in
         let born = with_born grouped (new_instance facts s l k) in
         let there : l < length born.libs = omega
-            (arith, within, length-set s.libs l (grouped_of (lib_at s l) groups)) in
-        rw (lib_at-same born l (joined_of (lib_at born l) k s.next) there, lib_at-same s l
-            (grouped_of (lib_at s l) groups) within)
+        (arith, within, length-set s.libs l (grouped_of (lib_at s l) groups)) in
+        rw (
+          lib_at-same born l (joined_of (lib_at born l) k s.next) there,
+          lib_at-same s l
+              (grouped_of (lib_at s l) groups) within,
+        )
         (record { is_open = refl; fallback = refl; given = refl; joins = inr (s.next, absent, refl) })
 
 -- and leaves the others as they were
@@ -132,9 +143,9 @@ activation_other facts s l k m other within = elim (cases_Bool (is_active_box k 
         let grouped = with_groups s l groups in
         let born = with_born grouped (new_instance facts s l k) in
         let there : l < length born.libs = omega
-            (arith, within, length-set s.libs l (grouped_of (lib_at s l) groups)) in
+        (arith, within, length-set s.libs l (grouped_of (lib_at s l) groups)) in
         lib_at-other born l (joined_of (lib_at born l) k s.next) there m other ∙ lib_at-other s l
-            (grouped_of (lib_at s l) groups) within m other
+        (grouped_of (lib_at s l) groups) within m other
 
 pub activation_length : (facts : List Facts) (s : State) (l k : ℕ) →
     length (after_activation facts s l k).libs ≡ length s.libs
@@ -149,7 +160,7 @@ activation_length facts s l k = elim (cases_Bool (is_active_box k (lib_at s l).o
         let groups = (offer_of facts s l k).groups in
         let born = with_born (with_groups s l groups) (new_instance facts s l k) in
         length-set born.libs l (joined_of (lib_at born l) k s.next) ∙ length-set s.libs l
-            (grouped_of (lib_at s l) groups)
+        (grouped_of (lib_at s l) groups)
 
 -- a load changes no fallback that is used, and makes none used
 used_after_load : (retain : Bool) (f : Fallback) → is_used (fallback_after_load retain f) ≡ is_used f
@@ -169,15 +180,21 @@ module _ (facts : List Facts) where
       Activated k lib active → IsOrderedLib facts lib → IsOrderedLib facts (loaded_of retain g active)
   loaded_ordered lib active k retain g of_box opened a h = record {
     distinct = joins_distinct k lib.order active.order a.joins h.distinct;
-    given = rw (list_all-append (λ (g' : Given). is_active_box g'.place active.order) active.given (g ∷
-        []), a.given, of_box, joins_active k lib.order active.order a.joins, given_more) refl;
+    given = rw (
+      list_all-append (λ (g' : Given). is_active_box g'.place active.order) active.given (g ∷
+          []),
+      a.given,
+      of_box,
+      joins_active k lib.order active.order a.joins,
+      given_more,
+    ) refl;
     kept = joins_all k lib.order active.order
         (stays_active (kept_of facts (loaded_of retain g active)) (active.given ++ g ∷ []))
         (λ n. rw (list_any-append (λ (g' : Given). nat_eq g'.place k) active.given (g ∷ []), of_box, eq-eqb k k refl)
-            (grind (arith, common_steps)))
+        (grind (arith, common_steps)))
         a.joins
         (all_more (stays_active (kept_of facts lib) lib.given)
-            (stays_active (kept_of facts (loaded_of retain g active)) (active.given ++ g ∷ [])) stays lib.order h.kept);
+        (stays_active (kept_of facts (loaded_of retain g active)) (active.given ++ g ∷ [])) stays lib.order h.kept);
     fallback = λ here used. joins_at k lib.order active.order (place_of default_name facts) a.joins
         (h.fallback opened (sym same_used ∙ used));
     closed = λ closed. absurd (true≢false (sym opened ∙ sym a.is_open ∙ closed));
@@ -195,8 +212,12 @@ module _ (facts : List Facts) where
           stays_active (kept_of facts (loaded_of retain g active)) (active.given ++ g ∷ []) x ≡ true
       stays x = stays_more (kept_of facts lib) (kept_of facts (loaded_of retain g active)) lib.given
           (active.given ++ g ∷ []) x
-          (λ some. rw (list_any-append (λ (g' : Given). nat_eq g'.place x.place) active.given (g ∷
-              []), a.given, some) refl)
+          (λ some. rw (
+            list_any-append (λ (g' : Given). nat_eq g'.place x.place) active.given (g ∷
+                []),
+            a.given,
+            some,
+          ) refl)
           (λ keeps. rw same_used keeps)
 
   -- the library context that a fetch leaves that falls back
@@ -212,7 +233,7 @@ module _ (facts : List Facts) where
         (λ n. rw (found, eq-eqb k k refl) (grind (arith, common_steps)))
         a.joins
         (all_more (stays_active (kept_of facts lib) lib.given)
-            (stays_active (kept_of facts (used_of active)) active.given) stays lib.order h.kept);
+        (stays_active (kept_of facts (used_of active)) active.given) stays lib.order h.kept);
     fallback = λ here used. rw found (joins_active k lib.order active.order a.joins);
     closed = λ closed. absurd (true≢false (sym opened ∙ sym a.is_open ∙ closed));
   }
@@ -222,35 +243,35 @@ module _ (facts : List Facts) where
       stays x = stays_more (kept_of facts lib) (kept_of facts (used_of active)) lib.given active.given x
           (λ some. rw (a.given, some) refl)
           (λ keeps. let none : false ≡ true = (rw (armed_unused lib.fallback armed) at keeps) in absurd
-              (true≢false (sym none)))
+          (true≢false (sym none)))
 
   -- the library context that an unload leaves
   pub unloaded_ordered : (lib : LibCtx) (t : ℕ) → IsOrderedLib facts lib →
       IsOrderedLib facts (unloaded_of (kept_of facts lib) t lib)
   unloaded_ordered lib t h =
-    let rest = (returned_of t lib).given in
-    let stays = stays_active (kept_of facts lib) rest in
-    record {
-    distinct = distinct_fewer place_of_active stays lib.order h.distinct;
-    given = all_among (λ (g : Given). is_active_box g.place (filter stays lib.order)) rest (λ g among.
-        still g.place (λ a same. with_given a g.place same (among (λ (g' : Given). nat_eq g'.place a.place)
+      let rest = (returned_of t lib).given in
+      let stays = stays_active (kept_of facts lib) rest in
+      record {
+        distinct = distinct_fewer place_of_active stays lib.order h.distinct;
+        given = all_among (λ (g : Given). is_active_box g.place (filter stays lib.order)) rest (λ g among.
+            still g.place (λ a same. with_given a g.place same (among (λ (g' : Given). nat_eq g'.place a.place)
             (eq-eqb g.place a.place (sym same))))
-        (all_at_among (λ (g' : Given). is_active_box g'.place lib.order) rest g
-        (all_fewer (λ (g' : Given). is_active_box g'.place lib.order)
+            (all_at_among (λ (g' : Given). is_active_box g'.place lib.order) rest g
+            (all_fewer (λ (g' : Given). is_active_box g'.place lib.order)
             (λ (g' : Given). not (is_of_token t g')) lib.given h.given) among));
-    kept = all_filtered stays lib.order;
-    fallback = λ here used. default_stays (place_of default_name facts) (rw used refl) (h.fallback here used);
-    closed = λ closed. let none = h.closed closed in (rw none.0 refl, rw none.1 refl);
-  }
+        kept = all_filtered stays lib.order;
+        fallback = λ here used. default_stays (place_of default_name facts) (rw used refl) (h.fallback here used);
+        closed = λ closed. let none = h.closed closed in (rw none.0 refl, rw none.1 refl);
+      }
     where
       still : (j : ℕ) → ((a : Active) → a.place ≡ j → stays_active (kept_of facts lib)
           (returned_of t lib).given a ≡ true) → is_active_box j lib.order ≡ true →
           is_active_box j (filter (stays_active (kept_of facts lib) (returned_of t lib).given) lib.order) ≡ true
       still j stay there =
           rw (list_any-filter (λ (a : Active). nat_eq a.place j)
-              (stays_active (kept_of facts lib) (returned_of t lib).given) lib.order)
+          (stays_active (kept_of facts lib) (returned_of t lib).given) lib.order)
           (any_more (λ (a : Active). nat_eq a.place j)
-              (λ (a : Active). stays_active (kept_of facts lib) (returned_of t lib).given a && nat_eq a.place j)
+          (λ (a : Active). stays_active (kept_of facts lib) (returned_of t lib).given a && nat_eq a.place j)
           (λ a same. rw (stay a (eqb-true a.place j same), same) refl) lib.order there)
 
       with_given : (a : Active) (j : ℕ) → a.place ≡ j → list_any (λ (g : Given). nat_eq g.place a.place)

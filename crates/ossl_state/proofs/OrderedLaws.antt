@@ -50,7 +50,7 @@ module _ (facts : List Facts) where
       let g = activation_given s c k in
       changed active l (loaded_of retain g (lib_at active l)) (omega (arith, within, activation_length facts s l k))
       (loaded_ordered facts (lib_at s l) (lib_at active l) k retain g refl opened (activation_lib facts s l k within)
-          (h l))
+      (h l))
       (λ m other. rw (activation_other facts s l k m other within) (h m))
 
   -- and where a fetch looks
@@ -65,7 +65,7 @@ module _ (facts : List Facts) where
           let found = fallback_found facts (lib_at s l) k some in
           changed active l (used_of (lib_at active l)) (omega (arith, within, activation_length facts s l k))
           (used_ordered facts (lib_at s l) (lib_at active l) k found.1 found.0 opened
-              (activation_lib facts s l k within) (h l))
+          (activation_lib facts s l k within) (h l))
           (λ m other. rw (activation_other facts s l k m other within) (h m))
 
 -- what is kept from step to step
@@ -104,9 +104,11 @@ keeps_after fixed s c (UpRef t) (Made n) there a sound h = second (element_of s 
   where
     second : (o : Option Live) → element_of s t ≡ o → Keeps fixed.facts (with_second s c o)
     second None none = h
-    second (Some x) found = record
-        { libs = h.libs; placed = placed_element s (second_method s.next c x) h.placed
-        (placed_named s t x h.placed found) }
+    second (Some x) found = record {
+      libs = h.libs;
+      placed = placed_element s (second_method s.next c x) h.placed
+          (placed_named s t x h.placed found);
+    }
 keeps_after fixed s c (SetDefault l q) NoLib there a sound h = h
 keeps_after fixed s c (SetDefault l q) Done there a sound h =
     let lib = ltb-true l fixed.contexts there in
@@ -119,8 +121,11 @@ keeps_after fixed s c (Fetch l op name q) NoLib there a sound h = h
 keeps_after fixed s c (Fetch l op name q) (StartRefused p) there a sound h = h
 keeps_after fixed s c (Fetch l op name q) Unsupported there a sound h =
     let lib = ltb-true l fixed.contexts there in
-    record { libs = fallback_libs fixed.facts s l
-        (omega (arith, lib, sound.contexts)) a.0 h.libs; placed = placed_fallback fixed.facts s l h.placed }
+    record {
+      libs = fallback_libs fixed.facts s l
+          (omega (arith, lib, sound.contexts)) a.0 h.libs;
+      placed = placed_fallback fixed.facts s l h.placed;
+    }
 keeps_after fixed s c (Fetch l op name q) (Fetched n p i r code) there a sound h =
     let f = after_fallback fixed.facts s l in
     let lib = ltb-true l fixed.contexts there in
@@ -133,8 +138,11 @@ keeps_after fixed s c (Fetch l op name q) (Fetched n p i r code) there a sound h
 keeps_after fixed s c (NewCtx t inner len) NotAdmitted there a sound h = h
 keeps_after fixed s c (NewCtx t inner len) (Made n) there a sound h =
     let m = admitted_some fixed.facts len (element_of s t) a.0 in
-    rw m.1 (record { libs = h.libs; placed = placed_element s (new_context s c inner m.0) h.placed
-        (placed_context s c inner m.0 h.placed (placed_named s t m.0 h.placed m.1)) })
+    rw m.1 (record {
+      libs = h.libs;
+      placed = placed_element s (new_context s c inner m.0) h.placed
+          (placed_context s c inner m.0 h.placed (placed_named s t m.0 h.placed m.1));
+    })
 keeps_after fixed s c (Free t) Done there a sound h = record { libs = h.libs; placed = placed_without s t h.placed }
 keeps_after fixed s c (FreeCtx t) Done there a sound h = record { libs = h.libs; placed = placed_without s t h.placed }
 keeps_after fixed s c (CloseLib l) NoLib there a sound h = h
@@ -153,7 +161,7 @@ keeps_from fixed s past [] sound h run = h
 keeps_from fixed s past (e ∷ es) sound h run =
     let left = keeps_after fixed s e.caller e.call e.reply run.0.allowed.lib run.0.answers sound.instances h in
     keeps_from fixed (after_entry fixed.facts s e) (past ++ e ∷ []) es (sound_after-entry fixed s past e sound run.0)
-        (record { libs = left.libs; placed = left.placed }) run.1
+    (record { libs = left.libs; placed = left.placed }) run.1
 
 -- a library context at the start, or none
 fresh_ordered : (facts : List Facts) (n l : ℕ) → IsOrderedLib facts (get_or (replicate n fresh_lib) l no_lib)
@@ -178,7 +186,7 @@ pub legal_ordered : LegalIsOrdered
 legal_ordered fixed es legal =
     let s = opening_state fixed.contexts in
     let left = keeps_from fixed s [] es (sound_after fixed [] tt)
-        (record { libs = fresh_ordered fixed.facts fixed.contexts; placed = refl }) legal in
+    (record { libs = fresh_ordered fixed.facts fixed.contexts; placed = refl }) legal in
     let t = state_from fixed.facts s es in
     record {
       libs = left.libs;

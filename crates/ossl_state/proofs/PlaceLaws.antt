@@ -34,7 +34,7 @@ placed_more : (born : List Born) (b : Born) (x : Live) → is_placed born x ≡ 
 placed_more born b x h =
     let parts = and_parts (list_all (is_born born) x.held) (is_first_of born x.place x.held) h in
     rw (all_more (is_born born) (is_born (born ++ b ∷ []))
-        (λ n there. more (λ b'. nat_eq b'.number n) there) x.held parts.0) (first x.held parts.1)
+    (λ n there. more (λ b'. nat_eq b'.number n) there) x.held parts.0) (first x.held parts.1)
   where
     more : (q : Born → Bool) → list_any q born ≡ true → list_any q (born ++ b ∷ []) ≡ true
     more q there = rw (list_any-append q born (b ∷ []), there) refl
@@ -86,13 +86,15 @@ pub placed_method : (fixed : Fixed) (m : ℕ) (s : State) (c l : ℕ) (op : Oper
 placed_method fixed m s c l op name query chosen sound e =
     let pair : is_paired s.born l (record { place = chosen.place; instance = chosen.instance }) ≡ true =
     best_holds s l op name query chosen (λ k n. is_paired s.born l (record { place = k; instance = n }))
-        (sound.paired l) e in
-    rw (any_more (λ (b : Born). nat_eq b.number chosen.instance && nat_eq b.place chosen.place && nat_eq b.lib l)
-        (λ (b : Born). nat_eq b.number chosen.instance)
-    (λ b h. (and_parts _ _ (and_parts _ _ h).0).0) s.born pair,
-    any_more (λ (b : Born). nat_eq b.number chosen.instance && nat_eq b.place chosen.place && nat_eq b.lib l)
-        (λ (b : Born). nat_eq b.number chosen.instance && nat_eq b.place chosen.place)
-    (λ b h. (and_parts _ _ h).0) s.born pair) refl
+    (sound.paired l) e in
+    rw (
+      any_more (λ (b : Born). nat_eq b.number chosen.instance && nat_eq b.place chosen.place && nat_eq b.lib l)
+          (λ (b : Born). nat_eq b.number chosen.instance)
+          (λ b h. (and_parts _ _ (and_parts _ _ h).0).0) s.born pair,
+      any_more (λ (b : Born). nat_eq b.number chosen.instance && nat_eq b.place chosen.place && nat_eq b.lib l)
+          (λ (b : Born). nat_eq b.number chosen.instance && nat_eq b.place chosen.place)
+          (λ b h. (and_parts _ _ h).0) s.born pair,
+    ) refl
 
 -- the operation context of a method, and of an inner one or none
 pub placed_context : (s : State) (c : ℕ) (inner : Option ℕ) (m : Live) → all_placed s ≡ true →

@@ -7,8 +7,8 @@ use crate::state::Given;
 /// active (provider(7)).
 pub fn count_given(given: &[Given], place: usize) -> usize
     ensures count { result ≡ count_by (λ g. nat_eq g.place place) given.now }
-    // What makes such a count worth keeping: in each library context of every legal history no provider is active twice,
-    // each activation is one of an active provider, and an active provider has one or is kept by the fallback.
+    // What makes such a count worth keeping: in each library context of every legal history no provider is active
+    // twice, each activation is one of an active provider, and an active provider has one or is kept by the fallback.
     ensures ordered { LegalIsOrdered }
 {
     given.iter().filter(|g| g.place == place).count()
