@@ -3,8 +3,8 @@
 ghost use Rattle.std.specs.Prelude.{◌≡◌, ◌++◌, codes, IfOk, OnErr, OnOk};
 ghost use Rattle.ossl_run.specs.ErrorLine.{configuration_status, error_status, error_text, file_status};
 
-use ossl_base::{FileRefusal, Text};
 use ossl_base::digits::put_decimal;
+use ossl_base::{FileRefusal, Text};
 use ossl_conf::{ConfRefused, put_refusal, put_shown};
 use ossl_script::{Limit, LineKind};
 use std::alloc::{AllocError, Global};

@@ -140,30 +140,30 @@ read_lines-lines-preserved g t c =
     let now = g.F.Files.entries c.lines.files in
     let conf = conf_of c.lines.conf in
     let bound : (rest : _) → c.in_ok-read.read.rest ≡ Some rest → (c.lines.number + c.in_ok-read.read.lines) + length rest.now ≤ length c.args.text.now + 1 =
-        λ rest e. omega (arith, c.lines.invariant.bound c.in-Some.rest c.in-Some.is, (c.in_ok-read.ensures.shorter rest e).1) in
+    λ rest e. omega (arith, c.lines.invariant.bound c.in-Some.rest c.in-Some.is, (c.in_ok-read.ensures.shorter rest e).1) in
     elim c.match-said.branch [
       | read_lines-in-Includes+in_ok-include-in-Includes w ↦ record {
-          read = λ answer h. next_line entries now c.args.depths c.lines.number c.in_ok-read.read.lines conf (conf_of c.args.conf.now) (logical_lines c.args.text.now)
+        read = λ answer h. next_line entries now c.args.depths c.lines.number c.in_ok-read.read.lines conf (conf_of c.args.conf.now) (logical_lines c.args.text.now)
             (option_copied c.lines.left) c.in-Some.rest.now c.read_line.new.line.items (option_copied c.in_ok-read.read.rest) (includes w.in-Includes.name.now) (Ok (conf_of w.include.new.conf)) answer
             c.lines.invariant.read (ap option_copied c.in-Some.is) (c.in_ok-read.ensures.read c.lines.number) c.lines.invariant.kept (w.in-Includes.ensures ∙ ap said c.as_slice.ensures.value)
             w.in_ok-include-in-Includes.ensures.read
             (subst (λ conf. AfterLines (MayIncludeAt entries c.args.depths) (conf_of conf) (lines_behind (c.lines.number + c.in_ok-read.read.lines) (option_copied c.in_ok-read.read.rest)) answer) w.conf-is h);
-          others = λ name at h. subst (λ conf. place_of (all_sections conf.sections) name ≡ Some at) (sym w.conf-is) (w.include.ensures.others name at (c.lines.invariant.others name at h));
-          kept = ap (λ files. g.F.Files.entries files) w.files-is ∙ w.include.ensures.kept ∙ c.lines.invariant.kept;
-          later = omega (arith, ap (λ files. g.F.Files.faults files) w.files-is, w.include.ensures.later, c.lines.invariant.later);
-          bound = bound;
-        }
+        others = λ name at h. subst (λ conf. place_of (all_sections conf.sections) name ≡ Some at) (sym w.conf-is) (w.include.ensures.others name at (c.lines.invariant.others name at h));
+        kept = ap (λ files. g.F.Files.entries files) w.files-is ∙ w.include.ensures.kept ∙ c.lines.invariant.kept;
+        later = omega (arith, ap (λ files. g.F.Files.faults files) w.files-is, w.include.ensures.later, c.lines.invariant.later);
+        bound = bound;
+      }
       | read_lines-in_default-said+in_ok-obey-in_default-said w ↦ record {
-          read = λ answer h. next_line entries now c.args.depths c.lines.number c.in_ok-read.read.lines conf (conf_of c.args.conf.now) (logical_lines c.args.text.now)
+        read = λ answer h. next_line entries now c.args.depths c.lines.number c.in_ok-read.read.lines conf (conf_of c.args.conf.now) (logical_lines c.args.text.now)
             (option_copied c.lines.left) c.in-Some.rest.now c.read_line.new.line.items (option_copied c.in_ok-read.read.rest) (shown_said c.said.result) (Ok (conf_of w.obey.new.self)) answer
             c.lines.invariant.read (ap option_copied c.in-Some.is) (c.in_ok-read.ensures.read c.lines.number) c.lines.invariant.kept (c.said.ensures ∙ ap said c.as_slice.ensures.value)
             (AfterLine-plain (MayIncludeAt now c.args.depths) conf c.lines.number c.said.result (Ok (conf_of w.obey.new.self)) w.in_default-said.not-Includes w.in_ok-obey-in_default-said.ensures.read)
             (subst (λ conf. AfterLines (MayIncludeAt entries c.args.depths) (conf_of conf) (lines_behind (c.lines.number + c.in_ok-read.read.lines) (option_copied c.in_ok-read.read.rest)) answer) w.conf-is h);
-          others = λ name at h. subst (λ conf. place_of (all_sections conf.sections) name ≡ Some at) (sym w.conf-is) (w.obey.ensures.others name at (c.lines.invariant.others name at h));
-          kept = ap (λ files. g.F.Files.entries files) w.files-is ∙ c.lines.invariant.kept;
-          later = omega (arith, ap (λ files. g.F.Files.faults files) w.files-is, c.lines.invariant.later);
-          bound = bound;
-        }
+        others = λ name at h. subst (λ conf. place_of (all_sections conf.sections) name ≡ Some at) (sym w.conf-is) (w.obey.ensures.others name at (c.lines.invariant.others name at h));
+        kept = ap (λ files. g.F.Files.entries files) w.files-is ∙ c.lines.invariant.kept;
+        later = omega (arith, ap (λ files. g.F.Files.faults files) w.files-is, c.lines.invariant.later);
+        bound = bound;
+      }
     ]
 
 pub read_lines-returns-clause-read : goal.read_lines-returns-clause-read
