@@ -2,8 +2,11 @@
 # build: the proved programs, each left at bin/NAME
 # test: the gate: every proof, must-fail edit, test and program, and then the cases
 # check CRATE=NAME: one crate, while you write it
+# install, uninstall [PREFIX=..] [DESTDIR=..]: the built programs and their manual pages, in place or away
 PROGRAMS = ossl_replay ossl_speed
-.PHONY: demo build test check
+INSTALLED = ossl_replay
+PREFIX = /usr/local
+.PHONY: demo build test check install uninstall
 
 demo:
 	@tools/demo
@@ -18,3 +21,9 @@ test:
 
 check:
 	cd crates/$(CRATE) && rt check
+
+install:
+	@tools/install "$(DESTDIR)$(PREFIX)" $(INSTALLED)
+
+uninstall:
+	@tools/install -r "$(DESTDIR)$(PREFIX)" $(INSTALLED)
