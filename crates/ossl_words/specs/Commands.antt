@@ -1,5 +1,5 @@
 -- The command set: the words that a program takes after its name, and the job that they ask for.
-use Rattle.std.specs.Prelude.{◌-◌, ◌^◌, ◌==◌, Bool, true, false, ◌||◌, List, [], ◌∷◌, length, map, codes}
+use Rattle.std.specs.Prelude.{ℕ, ◌-◌, ◌^◌, ◌==◌, Bool, true, false, ◌||◌, List, [], ◌∷◌, length, map, codes}
 use Rattle.std.specs.Prelude.{Option, Some, None, option_and_then, option_map, if◌then◌else◌}
 use Rattle.std.specs.List.{list_any}
 use Rattle.std.specs.Str.{bytes_eq}
@@ -36,24 +36,38 @@ abbrev pub read_or : {A : Type 0} → A → (Word → Option A) → Option Word 
 read_or absent read None = Some absent
 read_or absent read (Some value) = read value
 
+-- a run, where its parts were read
+abbrev pub run_from : Option (Option Word) → Option (List ℕ) → Option Job
+run_from (Some conf) (Some order) = Some (Run conf order false)
+run_from _ _ = None
+
 -- a run by the values of `--conf` and `--order`; without an order the list is empty
 abbrev pub run_with : Option Word → Option Word → Option Job
-run_with conf order =
-    option_and_then (λ name. option_map (λ callers. Run name callers false) (read_or [] order_of order))
-    (read_if_given name_of conf)
+run_with conf order = run_from (read_if_given name_of conf) (read_or [] order_of order)
 
--- a generated batch by N, SEED and the value of `--callers`: 1 to 65,536 lines, a seed below 2^64, and 1 to 16 callers,
--- or else one
+-- a generated batch, where its parts were read
+abbrev pub gen_from : Option ℕ → Option ℕ → Option ℕ → Option Job
+gen_from (Some lines) (Some seed) (Some callers) = Some (Gen lines seed callers)
+gen_from _ _ _ = None
+
+-- N is from 1 to 65,536, and SEED below 2^64
+abbrev pub lines_of : Word → Option ℕ
+lines_of = number_of 1 65536
+
+abbrev pub seed_of : Word → Option ℕ
+seed_of = number_of 0 (2 ^ 64 - 1)
+
+-- a generated batch by N, SEED and the value of `--callers`, of which there is one where none is given
 abbrev pub gen_with : Option Word → Option Word → Option Word → Option Job
 gen_with lines seed callers =
-    option_and_then (λ n. option_and_then (λ s. option_map (λ k. Gen n s k) (read_or 1 caller_of callers))
-    (option_and_then (number_of 0 (2 ^ 64 - 1)) seed)) (option_and_then (number_of 1 65536) lines)
+    gen_from (option_and_then lines_of lines) (option_and_then seed_of seed) (read_or 1 caller_of callers)
 
 abbrev pub run_job : List Given → Option Job
 run_job given = run_with (value_at (codes "conf") given) (value_at (codes "order") given)
 
 abbrev pub gen_job : List Given → Option Job
-gen_job given = gen_with (value_at (codes "lines") given) (value_at (codes "seed") given) (value_at (codes "callers") given)
+gen_job given =
+    gen_with (value_at (codes "lines") given) (value_at (codes "seed") given) (value_at (codes "callers") given)
 
 -- the job of a command that is named by its first word
 abbrev pub named_job : Bool → List Word → Option Job

@@ -1,8 +1,8 @@
 -- Numbers and lists of them, as words say them.
 use Rattle.std.specs.Prelude.{ℕ, nat_lt, Bool, false, ◌&&◌, ◌||◌, ◌==◌, not, List, [], ◌∷◌, length}
 use Rattle.std.specs.Prelude.{Option, Some, None, option_and_then, option_map, if◌then◌else◌}
-use Rattle.std.specs.List.{slice_split}
-use Rattle.std.specs.Str.{all_ascii_digits}
+use Rattle.std.specs.Char.{is_ascii_digit}
+use Rattle.std.specs.List.{list_all, slice_split}
 use Rattle.std.specs.Str.Parse.{digits_value}
 
 -- a zero with more behind it
@@ -13,7 +13,7 @@ has_leading_zero (byte ∷ next ∷ text) = byte == 48
 
 -- decimal digits, at least one, without sign or leading zero, `0` itself excepted
 abbrev pub is_decimal : List ℕ → Bool
-is_decimal text = nat_lt 0 (length text) && all_ascii_digits text && not (has_leading_zero text)
+is_decimal text = nat_lt 0 (length text) && list_all is_ascii_digit text && not (has_leading_zero text)
 
 -- the number, if it lies from low to high
 abbrev pub kept_within : ℕ → ℕ → ℕ → Option ℕ

@@ -27,7 +27,8 @@ is_given name given = list_any (λ g. bytes_eq g.name name) given
 
 -- one more, at most once under a name
 abbrev pub added : Word → Option Word → List Given → Option (List Given)
-added name value given = if is_given name given then None else Some (given ++ record { name = name; value = value } ∷ [])
+added name value given =
+    if is_given name given then None else Some (given ++ record { name = name; value = value } ∷ [])
 
 -- what stands behind a first byte
 abbrev pub after_byte : ℕ → Word → Option Word
@@ -83,8 +84,9 @@ read t (Some name) at given [] = None
 read t (Some name) at given (word ∷ rest) =
     if is_hyphened word then None
     else option_and_then (λ more. read t None at more rest) (added name (Some word) given)
-read t None at given (word ∷ rest) = read_word t (option_parts word) at word given
-    (λ more. read t None at more rest) (λ more. read t None (at + 1) more rest) (λ name. read t (Some name) at given rest)
+read t None at given (word ∷ rest) =
+    read_word t (option_parts word) at word given (λ more. read t None at more rest)
+    (λ more. read t None (at + 1) more rest) (λ name. read t (Some name) at given rest)
 
 -- what the words of a command give, from its first word on
 abbrev pub given_by : Takes → List Word → Option (List Given)

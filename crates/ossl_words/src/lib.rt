@@ -3,6 +3,10 @@
 //! The command set is the project's own (docs/manual); `clap` splits the words. Work grows with their bytes.
 #![tactic(auto)]
 
+mod command;
 pub mod job;
+mod number;
+pub mod words;
 
 pub use job::{Job, Order, WordsRefused};
+pub use words::read_words;
