@@ -3,6 +3,7 @@ pub mod Kind
 pub mod Limit
 pub mod Lines
 pub mod Words
+pub mod Named
 pub mod Table
 pub mod Judging
 pub mod Counts

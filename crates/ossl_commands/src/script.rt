@@ -58,7 +58,7 @@ impl Script {
             rest = behind;
         }
         let own = own_places(alloc, commands.as_slice())?;
-        let files = files.into_names(alloc)?;
+        let files = files.into_names();
         Ok(Script {
             lines: number,
             commands,
