@@ -1,5 +1,6 @@
 -- The key schedule goes on from turn to turn, and a stream from byte to byte.
 use Rattle.std.proofs.Common.{◌≡◌, ℕ, ◌+◌, ◌%◌, ◌<◌, List, [], ◌∷◌, ◌++◌, length, get_or, slice_index, set, take, drop, bit_xor, sym, ap, ◌∙◌, append_assoc, add-one, arith}
+use Rattle.std.proofs.Math.Nat.{suc-mod}
 use Rattle.std.specs.List.{range_with_len, swap}
 use Rattle.std.proofs.lemmas.List.{drop_more, take_more_set, drop-set-lt, append-nil, map-id}
 use Rattle.std.proofs.lemmas.List.FromFn.{map-range_with_len_more}
@@ -13,13 +14,19 @@ counted_more n =
     ∙ ap (λ (x : List ℕ). x ++ n ∷ []) (map-id (range_with_len 0 n))
 
 -- one turn more of the key schedule
-pub scheduled_more : (key s t : List ℕ) (i j : ℕ) → (s, j) ≡ scheduled key i
-    → t ≡ swap s i (((j + slice_index s i) % 256 + slice_index key (i % length key)) % 256)
-    → (t, ((j + slice_index s i) % 256 + slice_index key (i % length key)) % 256) ≡ scheduled key (i + 1)
+pub scheduled_more : (key s t : List ℕ) (i j at : ℕ) → at ≡ i % length key → (s, j) ≡ scheduled key i
+    → t ≡ swap s i (((j + slice_index s i) % 256 + slice_index key at) % 256)
+    → (t, ((j + slice_index s i) % 256 + slice_index key at) % 256) ≡ scheduled key (i + 1)
 unfolding scheduled
-scheduled_more key s t i j before after =
-    let carry : ((j + slice_index s i) % 256 + slice_index key (i % length key)) % 256 ≡ (j + slice_index s i + slice_index key (i % length key)) % 256 = omega arith in
-    rw (after, carry, add-one) (ap (scheduled_at key i) before)
+scheduled_more key s t i j at place before after =
+    let carry : ((j + slice_index s i) % 256 + slice_index key at) % 256
+    ≡ (j + slice_index s i + slice_index key at) % 256 = omega arith in
+    rw (after, carry, place, add-one) (ap (scheduled_at key i) before)
+
+-- the place of the turn after it in the key
+pub place_more : (i at n : ℕ) → at ≡ i % n → (at + 1) % n ≡ (i + 1) % n
+place_more i at n place =
+    rw (place, add-one, add-one) (sym (suc-mod i n))
 
 -- a state by its parts
 abbrev pub state_of : List ℕ → ℕ → ℕ → Rc4State

@@ -1,4 +1,4 @@
-ghost use Rattle.std.specs.Prelude.{◌≡◌, ℕ, ◌+◌, ◌%◌, ◌↔◌, List, ◌++◌, IsOk, IfOk, IfErr, OnOk, OnErr, length, slice_index, swap};
+ghost use Rattle.std.specs.Prelude.{◌≡◌, ℕ, ◌+◌, ◌%◌, ◌<◌, ◌↔◌, List, ◌++◌, IsOk, IfOk, IfErr, OnOk, OnErr, length, slice_index, swap};
 ghost use Rattle.std.specs.List.{range_with_len};
 ghost use Rattle.ossl_legacy.specs.Rc4State.{IsKeyLength, first_of, key_byte, key_schedule, scheduled, text_of, rc4};
 
@@ -41,16 +41,29 @@ fn ordered_table() -> [u8; 256]
     table
 }
 
+// The place behind a place in a key, which begins anew behind its end.
+#[inline(always)]
+fn next_place(at: usize, len: usize) -> usize
+    requires { at < len }
+    ensures { result ≡ (at + 1) % len }
+{
+    let next = at + 1;
+    if next == len { 0 } else { next }
+}
+
 // The table after the key schedule.
+#[inline(never)]
 fn scheduled_table(key: &[u8]) -> [u8; 256]
     requires { IsKeyLength (length key.now) }
     ensures { result ≡ (scheduled key.now 256).0 }
 {
     let mut table = ordered_table();
     let mut j = 0u8;
+    let mut at = 0;
     for i in 0..VALUES {
-        j = j.wrapping_add(table[i]).wrapping_add(key[i % key.len()]);
+        j = j.wrapping_add(table[i]).wrapping_add(key[at]);
         table.swap(i, j as usize);
+        at = next_place(at, key.len());
     }
     table
 }
