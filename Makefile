@@ -2,9 +2,8 @@
 # build: the proved programs, each left at bin/NAME
 # test: the gate: every proof, must-fail edit, test and program, and then the cases
 # check CRATE=NAME: one crate, while you write it
-# install, uninstall [PREFIX=..] [DESTDIR=..]: the built programs and their manual pages, in place or away
-PROGRAMS = ossl_replay ossl_speed
-INSTALLED = ossl_replay
+PROGRAMS = ossl_replay ossl_enc ossl_speed
+INSTALLED = ossl_replay ossl_enc
 PREFIX = /usr/local
 .PHONY: demo build test check install uninstall
 
