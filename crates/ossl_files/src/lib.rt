@@ -10,6 +10,7 @@ ghost use Rattle.std.specs.Prelude.{◌≡◌, ◌≤◌, length, IfOk, None};
 
 use ossl_base::{FileRefusal, Files, ReadRefusal, StdSource, read_all};
 use std::alloc::Global;
+use std::io::{ErrorKind, Read};
 use std::marker::Model;
 use std::{fs, rt};
 
@@ -59,7 +60,7 @@ impl<'a, R: rt::Files> Files for DirFiles<'a, R> {
     }
 }
 
-// The content of a file. A name that is not UTF-8 is none's.
+/// The content of a file of at most `limit` bytes; at most one more is read. A name that is not UTF-8 is none's.
 fn content<R: rt::Files>(
     alloc: Global,
     runtime: &R,
@@ -71,13 +72,15 @@ fn content<R: rt::Files>(
     let Ok(path) = str::from_utf8(name) else {
         return Err(FileRefusal::Failed);
     };
-    let Ok(file) = fs::open(runtime, path) else {
-        return Err(FileRefusal::Failed);
+    let file = match fs::open(runtime, path) {
+        Ok(file) => file,
+        Err(error) if error.kind() == ErrorKind::OutOfMemory => return Err(FileRefusal::NoMemory),
+        Err(_) => return Err(FileRefusal::Failed),
     };
-    match read_all(alloc, &mut StdSource::new(file), limit) {
-        Ok(content) => Ok(content),
-        Err(ReadRefusal::Failed) => Err(FileRefusal::Failed),
-        Err(ReadRefusal::TooLong) => Err(FileRefusal::TooLong),
-        Err(ReadRefusal::NoMemory) => Err(FileRefusal::NoMemory),
-    }
+    let mut source = StdSource::new(file.take(limit.saturating_add(1)));
+    read_all(alloc, &mut source, limit).map_err(|refusal| match refusal {
+        ReadRefusal::Failed => FileRefusal::Failed,
+        ReadRefusal::TooLong => FileRefusal::TooLong,
+        ReadRefusal::NoMemory => FileRefusal::NoMemory,
+    })
 }
