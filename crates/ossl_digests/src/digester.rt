@@ -89,6 +89,7 @@ impl Digester {
     }
 
     /// The digest of all bytes fed.
+    #[inline(always)]
     pub fn finish(self) -> HashValue
         ensures digest { (hash : TheHash) (fed : List ℕ) → Holds self hash fed → result ≡ digest hash fed }
         ensures length { (hash : TheHash) (fed : List ℕ) → Holds self hash fed → length result ≡ output_len hash }
