@@ -1,12 +1,15 @@
 -- Laws of beginnings and results.
-use Rattle.std.specs.Prelude.{◌≡◌, ℕ, Bool, true, false, nat_lt, Option, None, List, IfErr, IsTrue}
+use Rattle.std.specs.Prelude.{◌≡◌, ℕ, Bool, true, false, nat_lt, Option, Some, None, List, IfErr, IsTrue}
 use Rattle.ossl_codes.specs.declared.code.AesMode.TheVariants.{Ecb, Cbc, Cfb}
+use Rattle.ossl_codes.specs.Code.{output_len_of, block_len_of}
 use Rattle.ossl_codes.specs.declared.code.Code.{Code}
 use Rattle.ossl_codes.specs.declared.code.Code.TheVariants.{Aes, ChaCha20}
 use Rattle.ossl_codes.specs.declared.param.Direction.{Direction}
 use Rattle.ossl_codes.specs.declared.param.KdfMode.{KdfMode}
 use Rattle.ossl_codes.specs.declared.param.Param.{Param}
 use Rattle.ossl_codes.specs.declared.param.Param.TheVariants.{Key, Iv, Inner, Len}
+use Rattle.ossl_digests.specs.declared.hash.Hash.{Hash}
+use Rattle.ossl_digests.specs.Digest.{output_len, block_len}
 use Rattle.ossl_modes.specs.declared.kinds.FinishRefused.{FinishRefused}
 use Rattle.ossl_modes.specs.declared.kinds.FinishRefused.TheVariants.{WrongFinalBlock, BadDecrypt, StreamEnd}
 use Rattle.ossl_op.specs.declared.params.Params.{Params}
@@ -60,3 +63,7 @@ IsPassedOver code steps which = (inner : Option Code) (given : Params) (bytes : 
     (begins code (inner_without which inner) (without which params) ≡ begins code inner params)
     × (standard_result code (inner_without which inner) (without which params) bytes
     ≡ standard_result code inner params bytes)
+
+-- the lengths of a digest and of its blocks are told alike of the code and of its hash (FIPS 180-4, figure 1)
+abbrev pub HasLengthsOf : Code → Hash → Type 0
+HasLengthsOf code hash = (output_len_of code ≡ Some (output_len hash)) × (block_len_of code ≡ Some (block_len hash))

@@ -32,7 +32,7 @@ use Rattle.ossl_op.specs.declared.context.OpCtx.{OpCtx}
 use Rattle.ossl_op.specs.declared.params.BeginRefused.{BeginRefused}
 use Rattle.ossl_op.specs.declared.params.BeginRefused.TheVariants.{NoMemory}
 use Rattle.ossl_op.specs.declared.params.Params.{Params}
-use Rattle.ossl_op.specs.Tables.{cbc_bits, hash_of}
+use Rattle.ossl_op.specs.Tables.{cbc_bits}
 use Rattle.ossl_op.specs.Work.{Work, begun, result_with, unchecked_with}
 
 -- nothing is given before the end, and then this text, by the bytes that come yet
@@ -99,15 +99,14 @@ RunsState (state.Hkdf derived) work = RunsHkdf derived work
 abbrev pub Runs : OpCtx → Work → Type 0
 Runs context work = RunsState context.state work
 
--- the state runs the code's work on this hash, whichever inner code it came from
-abbrev pub RunsOnHash : Code → Hash → Params → State → Type 0
-RunsOnHash code hash params state =
-    (inner : Option Code) → option_and_then hash_of inner ≡ Some hash → RunsState state (begun code inner params)
+-- the context runs the code's work before any byte, whichever inner code it came with
+abbrev pub RunsAlone : Code → Params → OpCtx → Type 0
+RunsAlone code params context = (inner : Option Code) → Runs context (begun code inner params)
 
 -- likewise on the cipher of this key length
-abbrev pub RunsOnCipher : Code → Bits → Params → State → Type 0
-RunsOnCipher code bits params state =
-    (inner : Option Code) → option_and_then cbc_bits inner ≡ Some bits → RunsState state (begun code inner params)
+abbrev pub RunsOnCipher : Code → Bits → Params → OpCtx → Type 0
+RunsOnCipher code bits params context =
+    (inner : Option Code) → option_and_then cbc_bits inner ≡ Some bits → Runs context (begun code inner params)
 
 -- want of memory, which a key derivation alone has where it begins
 abbrev pub IsWantOfMemory : Code → BeginRefused → Type 0

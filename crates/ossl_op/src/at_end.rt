@@ -19,6 +19,7 @@ impl Algorithm for Digester {
         Ok(())
     }
 
+    #[inline(always)]
     fn finish(self, out: &mut Vec<u8>) -> Result<(), FinishRefused> {
         append(out, Digester::finish(self).as_slice())
     }
@@ -32,6 +33,7 @@ impl Algorithm for Hmac {
         Ok(())
     }
 
+    #[inline(always)]
     fn finish(self, out: &mut Vec<u8>) -> Result<(), FinishRefused> {
         append(out, Hmac::finish(self).as_slice())
     }
@@ -45,6 +47,7 @@ impl<C: Block> Algorithm for Cmac<C> {
         Ok(())
     }
 
+    #[inline(always)]
     fn finish(self, out: &mut Vec<u8>) -> Result<(), FinishRefused> {
         append(out, &Cmac::finish(self))
     }
@@ -58,6 +61,7 @@ impl Algorithm for Derived {
         Ok(())
     }
 
+    #[inline(always)]
     fn finish(self, out: &mut Vec<u8>) -> Result<(), FinishRefused> {
         append(out, self.bytes.as_slice())
     }

@@ -44,6 +44,7 @@ impl OpCtx {
     /// Takes the next bytes in, and appends what text is known by now: ciphers hold back what may yet be their last
     /// block, digests, codes and derivations give nothing before their end, and HKDF passes the bytes over. Where
     /// memory is refused, the context and `out` are as they were.
+    #[inline(never)]
     pub fn feed(&mut self, bytes: &[u8], out: &mut Vec<u8>) -> Result<(), AllocError>
         ensures appends { Appends out.old.items out.new.items }
         ensures runs { OnOk result (CarriesOn (Runs self.old) (Runs self.new) bytes.now out.old.items out.new.items) }
@@ -66,6 +67,7 @@ impl OpCtx {
 
     /// Appends what is left of the standard's result of all bytes fed, or refuses as the standard does and appends
     /// nothing. Memory may be refused in place of any answer that appends.
+    #[inline(always)]
     pub fn finish(self, out: &mut Vec<u8>) -> Result<(), FinishRefused>
         ensures appends { Appends out.old.items out.new.items }
         ensures accepted { OnOk result (EndsWell (Runs self) out.old.items out.new.items) }

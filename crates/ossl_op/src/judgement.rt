@@ -16,6 +16,7 @@ use ossl_codes::{Code, KdfMode, Param};
 ///
 /// Where the operation may begin, its standard's result of whatever bytes is a text, or one of the refusals of its
 /// code: for ECB and CBC a last block that is not whole or ends in no padding, for ChaCha20 the end of its key stream.
+#[inline(never)]
 #[tactic(auto, using(crate::proofs::CodeLaws::ends))]
 pub fn judge(code: Code, inner: Option<Code>, params: &Params) -> Result<(), BeginRefused>
     ensures begins { result ≡ begins code inner params.now }

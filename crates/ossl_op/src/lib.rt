@@ -19,3 +19,4 @@ pub use judgement::judge;
 pub use needs::{is_directed, needed};
 pub use ossl_modes::FinishRefused;
 pub use params::{BeginRefused, Params};
+pub use tables::hash_of;

@@ -1,7 +1,10 @@
 //! What a code stands for in the crates of its algorithm, and what it takes.
 
-ghost use Rattle.std.specs.Prelude.{◌≡◌};
+ghost use Rattle.std.specs.Prelude.{◌≡◌, ◌↔◌, IfSome, IsSome};
 ghost use Rattle.std.specs.Option.{option_and_then};
+ghost use Rattle.ossl_codes.specs.Code.{operation_of};
+ghost use Rattle.ossl_codes.specs.declared.code.Operation.{Operation};
+ghost use Rattle.ossl_op.specs.Laws.{HasLengthsOf};
 ghost use Rattle.ossl_op.specs.Standard.{is_decrypt};
 ghost use Rattle.ossl_op.specs.Tables.{cbc_bits, hash_of, hkdf_mode, key_len, kind_of, takes_inner, takes_iv};
 ghost use Rattle.ossl_op.specs.Tables.{takes_key};
@@ -11,9 +14,11 @@ use ossl_digests::Hash;
 use ossl_hkdf::HkdfMode;
 use ossl_modes::ModeKind;
 
-// The hash that a code stands for, where it is a digest.
-pub(crate) fn hash_of(code: Code) -> Option<Hash>
-    ensures { result ≡ hash_of code }
+/// The hash that a code stands for; `None` for what is no digest. Codes and hashes tell the same lengths.
+pub fn hash_of(code: Code) -> Option<Hash>
+    ensures value { result ≡ hash_of code }
+    ensures digests_only { IsSome result ↔ (operation_of code ≡ Operation.Digest) }
+    ensures lengths { IfSome result (HasLengthsOf code) }
 {
     match code {
         Code::Sha1 => Some(Hash::Sha1),
