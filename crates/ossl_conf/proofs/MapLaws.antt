@@ -8,6 +8,7 @@ use Rattle.std.specs.Str.{bytes_eq}
 use Rattle.std.proofs.lemmas.List.{map-append}
 use Rattle.indexmap.specs.IndexMap.{insert_entry}
 use Rattle.indexmap.specs.IndexSet.{insert_key}
+use Rattle.smallvec.specs.SmallVec.{SmallVec}
 use Rattle.ossl_conf.specs.Sections.{Entries, Sections, found, with_section, with_value}
 use Rattle.ossl_conf.specs.Places.{entries_at, first_place, name_at, place_of, Stays}
 use Rattle.ossl_conf.specs.Rows.{Rows, are_placed, names_of, of_section, rows_of, sections_by}
@@ -67,14 +68,14 @@ module _ (keys : List (Vec ℕ Global)) (rows : Rows) where
   pub stays-rows : (other : Rows) → Stays sections (sections_by 0 (names_of keys) other)
   stays-rows other name at h = place_of-sections_by 0 (names_of keys) other name ∙ sym (place_of-sections_by 0 (names_of keys) rows name) ∙ h
 
-module _ (keys : List (Vec ℕ Global)) (entries : List ((ℕ × Vec ℕ Global) × List ℕ)) (placed : are_placed (names_of keys) (rows_of entries) ≡ true) where
+module _ (keys : List (Vec ℕ Global)) (entries : List ((ℕ × SmallVec ℕ) × List ℕ)) (placed : are_placed (names_of keys) (rows_of entries) ≡ true) where
   -- what the code's map has at a key
-  pub lookup-entries : (key : ℕ × Vec ℕ Global) → lookup (same_key key) entries ≡ found key.1.items (entries_at (sections keys (rows_of entries)) key.0)
+  pub lookup-entries : (key : ℕ × SmallVec ℕ) → lookup (same_key key) entries ≡ found key.1.items (entries_at (sections keys (rows_of entries)) key.0)
   lookup-entries key =
       lookup-found entries key
       ∙ ap (found key.1.items) (sym (entries_at-sections_by 0 key.0 (names_of keys) (rows_of entries) (are_below-more _ _ (rows_of entries) (omega arith) placed) ∙ ap (λ at. of_section at (rows_of entries)) (let e : 0 + key.0 ≡ key.0 = omega arith in e)))
 
-  module _ (key : ℕ × Vec ℕ Global) (value section : List ℕ) (there : place_of (sections keys (rows_of entries)) section ≡ Some key.0) where
+  module _ (key : ℕ × SmallVec ℕ) (value section : List ℕ) (there : place_of (sections keys (rows_of entries)) section ≡ Some key.0) where
     first : first_place (bytes_eq section) (names_of keys) ≡ Some key.0
     first = sym (place_of-sections_by 0 (names_of keys) (rows_of entries) section) ∙ there
 

@@ -7,6 +7,7 @@ use Rattle.std.specs.Map.{lookup}
 use Rattle.std.specs.Str.{bytes_eq}
 use Rattle.std.proofs.lemmas.Bool.{and_from, and_parts, eq-eqb, eqb-true, ltb-true, lt-ltb, ne_eqb}
 use Rattle.indexmap.specs.IndexMap.{insert_entry}
+use Rattle.smallvec.specs.SmallVec.{SmallVec}
 use Rattle.ossl_conf.specs.Sections.{Entries, Sections, changed, found, with_section, with_value}
 use Rattle.ossl_conf.specs.Places.{entries_at, first_place, place_of}
 use Rattle.ossl_conf.specs.Rows.{Rows, are_placed, names_of, of_section, row_of, rows_of, sections_by}
@@ -64,10 +65,10 @@ insert_row at name value (row ∷ rows) =
     if at == row.0.0 && bytes_eq name row.0.1 then (row.0, value) ∷ rows else row ∷ insert_row at name value rows
 
 -- equal keys of the code's map
-abbrev pub same_key : ℕ × Vec ℕ Global → ℕ × Vec ℕ Global → Bool
+abbrev pub same_key : ℕ × SmallVec ℕ → ℕ × SmallVec ℕ → Bool
 same_key one other = nat_eq one.0 other.0 && pointwise nat_eq one.1.items other.1.items
 
-pub rows_of-insert_entry : (entries : List ((ℕ × Vec ℕ Global) × List ℕ)) (key : ℕ × Vec ℕ Global) (value : List ℕ)
+pub rows_of-insert_entry : (entries : List ((ℕ × SmallVec ℕ) × List ℕ)) (key : ℕ × SmallVec ℕ) (value : List ℕ)
     → rows_of (insert_entry same_key entries key value) ≡ insert_row key.0 key.1.items value (rows_of entries)
 rows_of-insert_entry [] key value = refl
 rows_of-insert_entry (entry ∷ entries) key value = by (same_key key entry.0) refl (rows_of-insert_entry entries key value)
@@ -77,7 +78,7 @@ rows_of-insert_entry (entry ∷ entries) key value = by (same_key key entry.0) r
     by false e go = rw e (ap (λ (rows : Rows). row_of entry ∷ rows) go)
 
 -- what the code's map has at a key
-pub lookup-found : (entries : List ((ℕ × Vec ℕ Global) × List ℕ)) (key : ℕ × Vec ℕ Global) → lookup (same_key key) entries ≡ found key.1.items (of_section key.0 (rows_of entries))
+pub lookup-found : (entries : List ((ℕ × SmallVec ℕ) × List ℕ)) (key : ℕ × SmallVec ℕ) → lookup (same_key key) entries ≡ found key.1.items (of_section key.0 (rows_of entries))
 lookup-found [] key = refl
 lookup-found (entry ∷ entries) key = by (nat_eq key.0 entry.0.0) refl (lookup-found entries key)
   where

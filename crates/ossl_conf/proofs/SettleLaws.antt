@@ -1,9 +1,9 @@
 -- The settings of sections, step by step.
-use Rattle.std.proofs.Common.{◌≡◌, ℕ, ◌+◌, Option, None, Some, Vec, Result, Ok, Err, List, [], ◌∷◌, ◌++◌, codes, drop, slice_get, refl, ap, sym, ◌∙◌, append_assoc}
-use Rattle.std.specs.declared.alloc.Global.{Global}
+use Rattle.std.proofs.Common.{◌≡◌, ℕ, ◌+◌, Option, None, Some, Result, Ok, Err, List, [], ◌∷◌, ◌++◌, codes, drop, slice_get, refl, ap, sym, ◌∙◌, append_assoc}
 use Rattle.std.proofs.lemmas.Bool.{eq-eqb, ne_eqb}
 use Rattle.std.proofs.lemmas.List.{drop_more}
 use Rattle.std.proofs.lemmas.Option.{get_or_from_slice_get, slice_get_within}
+use Rattle.smallvec.specs.SmallVec.{SmallVec}
 use Rattle.ossl_property.specs.declared.clause.Clause.{Clause}
 use Rattle.ossl_conf.specs.declared.refusal.ConfRefused.{ConfRefused}
 use Rattle.ossl_conf.specs.Sections.{Entries, Sections, default_section, found, value_in}
@@ -58,15 +58,15 @@ pub drop_found : {A : Type 0} (xs : List A) (i : ℕ) (x : A) → slice_get xs i
 drop_found xs i x e = drop_more xs i x (slice_get_within xs i x e) ∙ ap (λ y. y ∷ drop (i + 1) xs) (get_or_from_slice_get xs i x x e)
 
 -- the providers from a row on
-module _ (sections : Sections) (at : ℕ) (rows : List ((ℕ × Vec ℕ Global) × List ℕ)) where
+module _ (sections : Sections) (at : ℕ) (rows : List ((ℕ × SmallVec ℕ) × List ℕ)) where
   abbrev pub whole_from : ℕ → List (List ℕ) → Result (List (List ℕ)) ConfRefused
   whole_from index done = activations sections (of_section at (rows_of (drop index rows))) >>= λ rest. Ok (done ++ rest)
 
-  module _ (index : ℕ) (key : ℕ × Vec ℕ Global) (value : List ℕ) (there : slice_get rows index ≡ Some (key, value)) (done : List (List ℕ)) where
+  module _ (index : ℕ) (key : ℕ × SmallVec ℕ) (value : List ℕ) (there : slice_get rows index ≡ Some (key, value)) (done : List (List ℕ)) where
     by_entries : (entries : Entries) → of_section at (rows_of ((key, value) ∷ drop (index + 1) rows)) ≡ entries
         → whole_from index done ≡ (activations sections entries >>= λ rest. Ok (done ++ rest))
     by_entries entries e =
-        ap (λ (rows : List ((ℕ × Vec ℕ Global) × List ℕ)). activations sections (of_section at (rows_of rows)) >>= λ rest. Ok (done ++ rest)) (drop_found rows index (key, value) there)
+        ap (λ (rows : List ((ℕ × SmallVec ℕ) × List ℕ)). activations sections (of_section at (rows_of rows)) >>= λ rest. Ok (done ++ rest)) (drop_found rows index (key, value) there)
         ∙ ap (λ entries. activations sections entries >>= λ rest. Ok (done ++ rest)) e
 
     -- it is one of another section

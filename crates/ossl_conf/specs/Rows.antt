@@ -2,6 +2,7 @@
 use Rattle.std.specs.Prelude.{ℕ, ◌+◌, ◌==◌, nat_lt, Bool, List, [], ◌∷◌, length, map, Vec, if◌then◌else◌}
 use Rattle.std.specs.declared.alloc.Global.{Global}
 use Rattle.std.specs.List.{list_all}
+use Rattle.smallvec.specs.SmallVec.{SmallVec}
 use Rattle.ossl_conf.specs.Sections.{Entries, Sections}
 
 -- values by their section's place and their name
@@ -26,8 +27,8 @@ are_placed names rows = list_all (λ row. nat_lt row.0.0 (length names)) rows
 abbrev pub names_of : List (Vec ℕ Global) → List (List ℕ)
 names_of keys = map (λ key. key.items) keys
 
-abbrev pub row_of : (ℕ × Vec ℕ Global) × List ℕ → (ℕ × List ℕ) × List ℕ
+abbrev pub row_of : (ℕ × SmallVec ℕ) × List ℕ → (ℕ × List ℕ) × List ℕ
 row_of entry = ((entry.0.0, entry.0.1.items), entry.1)
 
-abbrev pub rows_of : List ((ℕ × Vec ℕ Global) × List ℕ) → Rows
+abbrev pub rows_of : List ((ℕ × SmallVec ℕ) × List ℕ) → Rows
 rows_of entries = map row_of entries

@@ -17,8 +17,6 @@ mod said;
 mod sections;
 mod settings;
 mod settling;
-#[cfg(test)]
-mod tests;
 mod value;
 mod words;
 

@@ -12,7 +12,7 @@ use crate::part::{Part, part_at};
 use crate::refusal::ConfRefused;
 use crate::run::past;
 use crate::said::{Statement, cut_at_colons};
-use crate::sections::SectionMap;
+use crate::sections::{Name, SectionMap};
 use crate::value::Value;
 use ossl_base::Text;
 use std::alloc::{AllocError, Global};
@@ -107,7 +107,7 @@ impl Progress {
             let kind = ConfKind::Growth;
             return Err(ConfRefused::Line { number, kind });
         }
-        let name = Vec::from_slice(alloc, name)?;
+        let name = Name::from_slice(alloc, name)?;
         let place = open_section(alloc, &mut self.sections, self.current, section)?;
         self.sections.set(place, name, value)?;
         self.total = total;

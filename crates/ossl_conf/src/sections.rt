@@ -5,7 +5,11 @@ ghost use Rattle.ossl_conf.specs.Rows.{are_placed, names_of, rows_of};
 
 use indexmap::{IndexMap, IndexSet};
 use ossl_base::Text;
+use smallvec::SmallVec;
 use std::alloc::{AllocError, Global};
+
+/// A name in a section. Most names have at most 16 bytes, which need no memory of their own.
+pub(crate) type Name = SmallVec<u8, 16>;
 
 /// Sections, each a list of names and values, in the order in which they were first set. Look-ups take time by the names'
 /// lengths, and not by how many there are.
@@ -13,7 +17,7 @@ use std::alloc::{AllocError, Global};
 pub(crate) struct SectionMap {
     pub names: IndexSet<Vec<u8>>,
     /// Each value by its section's place among the names, and by its name there.
-    pub values: IndexMap<(usize, Vec<u8>), Text>,
+    pub values: IndexMap<(usize, Name), Text>,
     ghost placed: { IsTrue (are_placed (names_of names.keys) (rows_of values.entries)) },
 }
 
@@ -55,7 +59,7 @@ impl SectionMap {
     }
 
     /// Sets a name in the section at a place. Every section stays where it is.
-    pub fn set(&mut self, at: usize, name: Vec<u8>, value: Text) -> Result<(), AllocError>
+    pub fn set(&mut self, at: usize, name: Name, value: Text) -> Result<(), AllocError>
         requires { let sections = all_sections self.old in place_of sections (name_at sections at) ≡ Some at }
         ensures sections { OnOk result (let sections = all_sections self.old in
             all_sections self.new ≡ with_value (name_at sections at) name.items value sections) }
@@ -69,7 +73,7 @@ impl SectionMap {
     pub fn value(&self, alloc: Global, at: usize, name: &[u8]) -> Result<Option<&[u8]>, AllocError>
         ensures { IfOk result (λ value. option_copied value ≡ found name.now (entries_at (all_sections self.now) at)) }
     {
-        let key = (at, Vec::from_slice(alloc, name)?);
+        let key = (at, Name::from_slice(alloc, name)?);
         match self.values.get(&key) {
             Some(value) => Ok(Some(value.as_slice())),
             None => Ok(None),

@@ -1,4 +1,4 @@
-use Rattle.std.proofs.Common.{◌≡◌, ◌≤◌, ◌⊎◌, ◌+◌, ◌-◌, ℕ, suc, List, length, Some, Ok, Err, Result, ap, subst, sym, refl, ◌∙◌, arith}
+use Rattle.std.proofs.Common.{◌≡◌, ◌≤◌, ◌+◌, ◌-◌, ℕ, suc, List, length, Some, Ok, Err, Result, ap, subst, sym, refl, ◌∙◌, arith}
 use Rattle.std.specs.Option.{option_copied}
 use Rattle.ossl_base.specs.declared.files.FileRefusal.{FileRefusal}
 use Rattle.ossl_base.specs.declared.files.FileRefusal.TheVariants.{Failed}

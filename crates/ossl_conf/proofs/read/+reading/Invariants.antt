@@ -1,4 +1,4 @@
-use Rattle.std.proofs.Common.{◌≡◌, ℕ, ◌+◌, ◌*◌, ◌≤◌, Result, length}
+use Rattle.std.proofs.Common.{◌≡◌, ◌+◌, ◌*◌, ◌≤◌, Result, length}
 use Rattle.std.specs.Option.{option_copied, option_map_or, ForSome}
 use Rattle.ossl_conf.specs.declared.refusal.ConfRefused.{ConfRefused}
 use Rattle.ossl_conf.specs.Answers.{AfterLines, MayIncludeAt}

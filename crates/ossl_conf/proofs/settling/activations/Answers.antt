@@ -1,6 +1,7 @@
 use Rattle.std.proofs.Common.{◌≡◌, ℕ, ◌+◌, Option, Vec, Result, Ok, Err, List, [], ◌∷◌, ◌++◌, ap, sym, ◌∙◌, append-nil}
 use Rattle.std.specs.declared.alloc.Global.{Global}
 use Rattle.std.specs.Option.{option_to_list}
+use Rattle.smallvec.specs.SmallVec.{SmallVec}
 use Rattle.ossl_conf.specs.declared.refusal.ConfRefused.{ConfRefused}
 use Rattle.ossl_conf.specs.Kept.{all_sections}
 use Rattle.ossl_conf.specs.Places.{entries_at}
@@ -23,9 +24,9 @@ pub returns-in_err-name : goal.returns-in_err-name
 returns-in_err-name c =
     let all = all_sections c.args.sections.now in
     let refusal = c.in_err-name.field-0.0 in
-    let key : ℕ × Vec ℕ Global = c.in-Some.field-0-0.now in
+    let key : ℕ × SmallVec ℕ = c.in-Some.field-0-0.now in
     let value : List ℕ = c.in-Some.value.now in
-    let name : c.as_slice.result.now ≡ key.1.items = c.as_slice.ensures.value in
+    let name : c.as_slice.result.now ≡ key.1.items = c.as_slice.ensures in
     let same : c.args.at ≡ key.0 = sym c.if-section-at.true in
     let args : ◌≡◌ {A = List ℕ × List ℕ} (key.1.items, value) (c.as_slice.result.now, c.as_slice-then-section-at.result.now) = λ i. (sym name i, sym c.as_slice-then-section-at.ensures.bytes i) in
     rw (handed c.from_residual.result refusal c.from_residual.ensures)
@@ -41,11 +42,11 @@ loop-index-preserved c =
     let rows = c.args.sections.now.values.entries in
     let index = c.loop-index.index in
     let names = c.loop-index.names.items in
-    let key : ℕ × Vec ℕ Global = c.in-Some.field-0-0.now in
+    let key : ℕ × SmallVec ℕ = c.in-Some.field-0-0.now in
     let value : List ℕ = c.in-Some.value.now in
     elim c.if-section-at.branch [
       | then-section-at+in_ok-name+in-Some-2+in_ok-push w ↦
-          let name : w.as_slice.result.now ≡ key.1.items = w.as_slice.ensures.value in
+          let name : w.as_slice.result.now ≡ key.1.items = w.as_slice.ensures in
           let same : c.args.at ≡ key.0 = sym w.if-section-at.true in
           let args : ◌≡◌ {A = List ℕ × List ℕ} (key.1.items, value) (w.as_slice.result.now, w.as_slice-then-section-at.result.now) = λ i. (sym name i, sym w.as_slice-then-section-at.ensures.bytes i) in
           let first : List (List ℕ) = w.in-Some-2.name ∷ [] in
@@ -55,7 +56,7 @@ loop-index-preserved c =
           (ap (activation all) args ∙ w.in_ok-name.ensures ∙ ap (λ (o : Option (List ℕ)). Ok (option_to_list o)) w.in-Some-2.is))
           ∙ c.loop-index.invariant
       | then-section-at+in_ok-name+in_default-2 w ↦
-          let name : w.as_slice.result.now ≡ key.1.items = w.as_slice.ensures.value in
+          let name : w.as_slice.result.now ≡ key.1.items = w.as_slice.ensures in
           let same : c.args.at ≡ key.0 = sym w.if-section-at.true in
           let args : ◌≡◌ {A = List ℕ × List ℕ} (key.1.items, value) (w.as_slice.result.now, w.as_slice-then-section-at.result.now) = λ i. (sym name i, sym w.as_slice-then-section-at.ensures.bytes i) in
           let final : c.if-section-at.names.items ≡ names ++ [] = ap (λ (names : Vec (List ℕ) Global). names.items) w.names-is ∙ sym (append-nil names) in

@@ -1,4 +1,4 @@
-use Rattle.std.proofs.Common.{◌≡◌, ℕ, ◌+◌, List, Some, length, ap, refl, ◌∙◌, unwrap_or, arith}
+use Rattle.std.proofs.Common.{◌≡◌, ◌+◌, length, ap, refl, ◌∙◌, unwrap_or, arith}
 use Rattle.std.specs.Option.{option_copied}
 use Rattle.ossl_conf.specs.Kept.{all_sections}
 use Rattle.ossl_conf.specs.Places.{current_name, name_at, Stays}
@@ -49,7 +49,7 @@ returns-clause-set c =
     let long : length c.as_slice.result.now ≡ length value = ap length c.as_slice.ensures.bytes in
     let set : final ≡ with_value section c.args.name.now value all =
     c.in_ok-set.ensures.sections
-    ∙ ap (λ name. with_value (name_at opened c.in_ok-place.place) name value opened) c.in_ok-name.ensures.items
+    ∙ ap (λ name. with_value (name_at opened c.in_ok-place.place) name value opened) c.in_ok-name.ensures.ok
     ∙ with_value-place all opened section c.args.name.now value c.in_ok-place.place c.in_ok-place.ensures.sections c.in_ok-place.ensures.place in
     let new : Conf = record {
       current = current_name final self.current;

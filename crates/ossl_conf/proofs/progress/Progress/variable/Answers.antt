@@ -1,6 +1,5 @@
 use Rattle.std.proofs.Common.{◌≡◌, IfOk, ap, sym, subst, ◌∙◌}
 use Rattle.std.specs.Option.{option_copied}
-use Rattle.ossl_conf.specs.Kept.{all_sections}
 use Rattle.ossl_conf.specs.Places.{value_at_or_default}
 use Rattle.ossl_conf.specs.Progress.{conf_of}
 use Rattle.ossl_conf.specs.Reading.{value_by_cut, value_by_name}

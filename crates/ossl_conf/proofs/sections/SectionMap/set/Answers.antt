@@ -1,5 +1,5 @@
-use Rattle.std.specs.declared.alloc.Global.{Global}
-use Rattle.std.proofs.Common.{ℕ, Vec, ◌≡◌, ap, ◌∙◌, inl, inr}
+use Rattle.std.proofs.Common.{ℕ, ◌≡◌, ap, ◌∙◌, inl, inr}
+use Rattle.smallvec.specs.SmallVec.{SmallVec}
 use Rattle.ossl_conf.specs.Kept.{all_sections}
 use Rattle.ossl_conf.specs.Places.{name_at}
 use Rattle.ossl_conf.specs.Rows.{names_of, rows_of, sections_by}
@@ -12,7 +12,7 @@ pub invariant_of-self : goal.invariant_of-self
 invariant_of-self c =
     let keys = c.args.self.now.names.keys in
     let entries = c.args.self.now.values.entries in
-    let key : ℕ × Vec ℕ Global = (c.args.at, c.args.name) in
+    let key : ℕ × SmallVec ℕ = (c.args.at, c.args.name) in
     record {
       placed = elim (either_way c.insert.result (c.insert.new.self.entries ≡ insert_entry same_key entries key c.args.value) (c.insert.new.self.entries ≡ entries) c.insert.ensures.entries c.insert.ensures.err) [
         | inl e ↦ rw e (placed-set keys entries c.args.self.now.placed key c.args.value (name_at (all_sections c.args.self.now) c.args.at) c.requires)
