@@ -1,4 +1,6 @@
 ghost use Rattle.std.specs.Prelude.{◌≡◌, ℕ, ◌+◌, ◌%◌, ◌<◌, ◌≤◌, List, [], ◌++◌, OnOk, OnErr, length};
+ghost use Rattle.rand_core.specs.Steps.{fill_via_u32};
+ghost use Rattle.rand_chacha.specs.ChaCha.{next_word};
 ghost use Rattle.ossl_chacha.specs.KeyStream.{blocks_of, front_text, further, stream_len, stream_of, text_from, text_of};
 ghost use Rattle.ossl_chacha.specs.KeyStream.{xored};
 
@@ -53,6 +55,15 @@ fn xor(text: &mut [u8], stream: &[u8])
     for (i, byte) in text.iter_mut().enumerate() {
         *byte ^= front[i];
     }
+}
+
+// Draws the generator's next bytes. The compiler draws its rounds into the loop over the words at one place alone, so
+// all is drawn here.
+#[inline(never)]
+fn draw(generator: &mut ChaCha20Rng, room: &mut [u8])
+    ensures { (room.new, generator.new) ≡ fill_via_u32 (next_word 10) (length room.old) generator.old }
+{
+    fill_bytes_via_u32(generator, room);
 }
 
 impl ChaCha {
@@ -115,7 +126,7 @@ impl ChaCha {
         ensures text { text.new ≡ front_text self.old result text.old }
         ensures used { self.new ≡ further self.old result }
     {
-        fill_bytes_via_u32(&mut self.generator, &mut self.held);
+        draw(&mut self.generator, &mut self.held);
         let count = text.len().min(BLOCK);
         xor(&mut text[..count], &self.held);
         self.used += count as u128;
@@ -131,7 +142,7 @@ impl ChaCha {
         ensures text { text.new ≡ front_text self.old 256 text.old }
         ensures used { self.new ≡ further self.old 256 }
     {
-        fill_bytes_via_u32(&mut self.generator, room);
+        draw(&mut self.generator, room);
         xor(&mut text[..RUN], room);
         self.used += RUN as u128;
     }

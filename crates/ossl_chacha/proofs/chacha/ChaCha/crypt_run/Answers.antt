@@ -19,15 +19,15 @@ room c =
 
 -- what is drawn is the next four blocks
 blocks : (c : goal.After-self-1)
-    → (c.fill_bytes_via_u32.new.dst ≡ blocks_at c.self.inside.key c.self.inside.iv (c.self.inside.used / 64) 4)
-    × (c.fill_bytes_via_u32.new.rng ≡ generator_at c.self.inside.key c.self.inside.iv (c.self.inside.used / 64 + 4))
+    → (c.draw.new.room ≡ blocks_at c.self.inside.key c.self.inside.iv (c.self.inside.used / 64) 4)
+    × (c.draw.new.generator ≡ generator_at c.self.inside.key c.self.inside.iv (c.self.inside.used / 64 + 4))
 blocks c =
     let s = c.self.inside in
     let n = s.used / 64 in
     let left : n + 4 ≤ blocks_of s.iv = omega (arith, at_block c, room c) in
     let place : (s.used + 63) / 64 ≡ n = omega (arith, at_block c) in
     let size : length c.args.room.now ≡ 256 = omega arith in
-    let filled = c.fill_bytes_via_u32.ensures
+    let filled = c.draw.ensures
     ∙ ap (λ (k : ℕ). fill_via_u32 (next_word 10) k s.generator) size in
     drawn s.key s.iv _ s.generator _ n 4 256 (omega arith) left c.self.invariant.words_are
     (c.self.invariant.place ∙ ap (generator_at s.key s.iv) place) filled
