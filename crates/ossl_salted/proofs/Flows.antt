@@ -1,5 +1,5 @@
 -- A text that goes through a mode piece by piece.
-use Rattle.std.proofs.Common.{◌≡◌, ℕ, ◌+◌, ◌-◌, ◌<◌, ◌≤◌, List, [], ◌++◌, length, take, drop, Result, Ok, Err, None, Some, refl, sym, ap, ◌∙◌, arith, append_assoc, length-append, nat_lt, if◌then◌else◌, true, false, inl, inr, ◌⊎◌, subst}
+use Rattle.std.proofs.Common.{IsErr, IsErrAnd, ◌≡◌, ℕ, ◌+◌, ◌-◌, ◌<◌, ◌≤◌, List, [], ◌++◌, length, take, drop, Result, Ok, Err, None, Some, refl, sym, ap, ◌∙◌, arith, append_assoc, length-append, nat_lt, if◌then◌else◌, true, false, inl, inr, ◌⊎◌, subst}
 use Rattle.std.specs.declared.option.Option.{Option}
 use Rattle.std.proofs.lemmas.Bool.Decides.{nat_tests}
 use Rattle.std.proofs.lemmas.List.{append-nil, take-append-le, take_all, take-append-drop}
@@ -108,6 +108,11 @@ module _ {C : Type 0} {g : Ghosts C} where
   -- where nothing was written
   pub Begins-nothing : (m : Mode C g) (out a : List ℕ) → Begins m out a []
   Begins-nothing m out a = record { text = λ rest. (due_from m out (a ++ rest), sym (before-nil _)); whole = λ rest. (whole_from m out (a ++ rest), refl) }
+
+-- what `?` hands on is the error itself
+pub handed : {T E : Type 0} (result : Result T E) (e : E) → IsErr result × IsErrAnd result (λ given. given ≡ e) → result ≡ Err e
+handed (Ok x) e h = absurd h.1
+handed (Err given) e h = ap Err h.1
 
 -- a cause by other names
 pub IsCause-wider : (end : End) (a b c d e f : Type 0) → (a → d) → (b → e) → (c → f) → IsCause end a b c → IsCause end d e f

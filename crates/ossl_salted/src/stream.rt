@@ -54,13 +54,9 @@ fn turn<C: Block, K: Sink>(
         Ok(()) => {}
         Err(_) => return Err(End::NoMemory),
     }
-    match put(sink, out.as_slice()) {
-        Ok(()) => {
-            out.clear();
-            Ok(())
-        }
-        Err(end) => Err(end),
-    }
+    put(sink, out.as_slice())?;
+    out.clear();
+    Ok(())
 }
 
 // All that the source has left, of which there may be at most `room` bytes, through the mode.
@@ -90,9 +86,7 @@ fn pump<C: Block, S: Source, K: Sink>(
             return Err(End::TooLong);
         }
         total += count as u64;
-        if let Err(end) = turn(mode, &buf[..count], out, sink) {
-            return Err(end);
-        }
+        turn(mode, &buf[..count], out, sink)?;
     }
 }
 
