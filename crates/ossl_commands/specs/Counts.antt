@@ -1,10 +1,12 @@
 -- How much a batch names: its lines, callers and library contexts.
-use Rattle.std.specs.Prelude.{ℕ, ◌+◌, max, Option, Some, None, List, [], ◌∷◌, length, map, fold, filter, filter_map, flat_map, nat_eq, if◌then◌else◌}
+use Rattle.std.specs.Prelude.{ℕ, ◌+◌, max, Option, Some, None, List, [], ◌∷◌, length, map, fold, filter, filter_map}
+use Rattle.std.specs.Prelude.{flat_map, nat_eq, if◌then◌else◌}
 use Rattle.std.specs.Str.Lines.{lines}
 use Rattle.ossl_commands.specs.declared.command.Argument.{Argument}
 use Rattle.ossl_commands.specs.declared.command.Argument.TheVariants.{Piece, Lib, Key, Iv, Salt, Info}
 use Rattle.ossl_commands.specs.declared.command.Command.{Command}
-use Rattle.ossl_commands.specs.declared.command.Command.TheVariants.{Load, Default, Fetch, Open, Feed, CloseLib, Perform}
+use Rattle.ossl_commands.specs.declared.command.Command.TheVariants.{Load, Default, Fetch, Open, Feed, CloseLib}
+use Rattle.ossl_commands.specs.declared.command.Command.TheVariants.{Perform}
 use Rattle.ossl_commands.specs.declared.command.Data.{Data}
 use Rattle.ossl_commands.specs.declared.command.Line.{Line}
 
@@ -59,4 +61,6 @@ lines_of caller lines = filter (λ line. nat_eq line.caller caller) lines
 -- their places, where the first of all lines has this one
 abbrev pub own_places : ℕ → ℕ → List Line → List ℕ
 own_places caller place [] = []
-own_places caller place (line ∷ lines) = if nat_eq line.caller caller then place ∷ own_places caller (place + 1) lines else own_places caller (place + 1) lines
+own_places caller place (line ∷ lines) =
+    if nat_eq line.caller caller then place ∷ own_places caller (place + 1) lines
+    else own_places caller (place + 1) lines

@@ -1,5 +1,6 @@
 -- How much a batch declares, and the first limit that it passes.
-use Rattle.std.specs.Prelude.{ℕ, ◌-◌, ◌^◌, min, nat_lt, Option, Some, None, List, [], ◌∷◌, ◌++◌, length, map, slice_index, sum, sum_by, if◌then◌else◌}
+use Rattle.std.specs.Prelude.{ℕ, ◌-◌, ◌^◌, min, nat_lt, Option, Some, None, List, [], ◌∷◌, ◌++◌, length, map}
+use Rattle.std.specs.Prelude.{slice_index, sum, sum_by, if◌then◌else◌}
 use Rattle.ossl_commands.specs.declared.command.Argument.{Argument}
 use Rattle.ossl_commands.specs.declared.command.Argument.TheVariants.{Len}
 use Rattle.ossl_commands.specs.declared.command.Data.{Data}
@@ -10,7 +11,8 @@ use Rattle.ossl_commands.specs.declared.limit.Limit.TheVariants as limits
 use Rattle.ossl_commands.specs.Counts.{greatest, callers_of, contexts_of, arguments_in, data_in}
 use Rattle.ossl_commands.specs.Limit.{most_of}
 
--- the bytes that data stands for, given the lengths of files in the order of their first naming; a file without a length counts 0
+-- the bytes that data stands for, given the lengths of files in the order of their first naming; a file without a
+-- length counts 0
 abbrev pub data_length : List ℕ → Data → ℕ
 data_length lengths (Bytes bytes) = length bytes
 data_length lengths (Copies count byte) = count
@@ -51,4 +53,5 @@ amounts lines commands lengths =
 -- what the text alone amounts to, then each file in order, and then the whole with the lengths of its files
 abbrev pub passed_limit : ℕ → List Line → List ℕ → Option Limit
 passed_limit lines commands lengths =
-    first_passed (amounts lines commands [] ++ map (λ size. (size, limits.File)) lengths ++ amounts lines commands lengths)
+    first_passed (
+    amounts lines commands [] ++ map (λ size. (size, limits.File)) lengths ++ amounts lines commands lengths)

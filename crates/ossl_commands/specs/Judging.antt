@@ -1,5 +1,7 @@
 -- The commands that a text says, or its first faulty line with the first kind of fault that applies.
-use Rattle.std.specs.Prelude.{ℕ, ◌≡◌, ⊤, ◌+◌, Bool, true, false, not, ◌&&◌, ◌||◌, Option, Some, None, is_some, is_none, unwrap_or, ok_or, option_and_then, Result, Ok, Err, List, [], ◌∷◌, ◌++◌, drop, slice_get, codes, if◌then◌else◌}
+use Rattle.std.specs.Prelude.{ℕ, ◌≡◌, ⊤, ◌+◌, Bool, true, false, not, ◌&&◌, ◌||◌, Option, Some, None, is_some, is_none}
+use Rattle.std.specs.Prelude.{unwrap_or, ok_or, option_and_then, Result, Ok, Err, List, [], ◌∷◌, ◌++◌, drop, slice_get}
+use Rattle.std.specs.Prelude.{codes, if◌then◌else◌}
 use Rattle.std.specs.List.{list_any, list_all}
 use Rattle.std.specs.Str.{bytes_eq}
 use Rattle.std.specs.Str.Lines.{lines}
@@ -62,19 +64,22 @@ excludes option other = bytes_eq option other || (is_inner option && is_inner ot
 -- an option that the command has, that no argument before it excludes, and whose value is good
 abbrev pub option_argument : Row → Files → List Argument → List ℕ → List ℕ → Option (Argument × Files)
 option_argument row files before option value =
-    if list_any (bytes_eq option) row.options && not (list_any (λ argument. excludes option (option_name argument)) before)
+    if list_any (bytes_eq option) row.options
+    && not (list_any (λ argument. excludes option (option_name argument)) before)
     then option_of files option value
     else None
 
 -- a word that is no option
 abbrev pub other_argument : Others → Files → List Argument → List ℕ → Result (Argument × Files) LineKind
 other_argument others.Nothing files before word = Err kinds.Arguments
-other_argument others.Retain files [] word = if bytes_eq word (codes "retain") then Ok (Retain, files) else Err kinds.Arguments
+other_argument others.Retain files [] word =
+    if bytes_eq word (codes "retain") then Ok (Retain, files) else Err kinds.Arguments
 other_argument others.Retain files (argument ∷ before) word = Err kinds.Arguments
 other_argument others.Pieces files before word = ok_or (from_data Piece (data_of files word)) kinds.Data
 other_argument others.SomePieces files before word = ok_or (from_data Piece (data_of files word)) kinds.Data
 
-abbrev pub argument_of : Row → Files → List Argument → List ℕ → Option (List ℕ × List ℕ) → Result (Argument × Files) LineKind
+abbrev pub argument_of : Row → Files → List Argument → List ℕ → Option (List ℕ × List ℕ)
+    → Result (Argument × Files) LineKind
 argument_of row files before word None = other_argument row.others files before word
 argument_of row files before word (Some parts) = ok_or (option_argument row files before parts.0 parts.1) kinds.Option
 
@@ -82,7 +87,8 @@ argument_of row files before word (Some parts) = ok_or (option_argument row file
 abbrev pub arguments_of : Row → Files → List Argument → List (List ℕ) → Result (List Argument × Files) LineKind
 arguments_of row files before [] = Ok (before, files)
 arguments_of row files before (word ∷ words) =
-    argument_of row files before word (option_word word) >>= λ read. arguments_of row read.1 (before ++ read.0 ∷ []) words
+    argument_of row files before word (option_word word)
+    >>= λ read. arguments_of row read.1 (before ++ read.0 ∷ []) words
 
 -- the last two of five steps: the words behind the command's own, and the query text
 abbrev pub command_in : Verb → Files → List (List ℕ) → Option (List ℕ) → Result (Command × Files) LineKind
@@ -99,7 +105,8 @@ pub record Said : Type 0 where
   pub command : Command
   pub files : Files
 
--- a line is judged in five steps: its bytes, its caller, its command, the fixed words and the query, and the other words
+-- a line is judged in five steps: its bytes, its caller, its command, the fixed words and the query, and the other
+-- words
 abbrev pub judged : Files → List ℕ → Result Said LineKind
 judged files line =
     let words = words_of (before_query true line) in
@@ -134,7 +141,8 @@ commands_from number files (line ∷ lines) =
     then commands_from (number + 1) files lines
     else numbered number (judged files line) (λ named. commands_from (number + 1) named lines)
 
--- the numbered commands of a text with the files that they name, or its first faulty line; lines are numbered from 1, and skipped ones count
+-- the numbered commands of a text with the files that they name, or its first faulty line; lines are numbered from 1,
+-- and skipped ones count
 abbrev pub commands_of : List ℕ → Result Commands Fault
 commands_of text = commands_from 1 [] (lines text)
 

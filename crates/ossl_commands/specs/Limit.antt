@@ -1,7 +1,8 @@
 -- The limits of a run, as an error line names them, and the greatest amounts that do not pass them.
 use Rattle.std.specs.Prelude.{ℕ, List, codes}
 use Rattle.ossl_commands.specs.declared.limit.Limit.{Limit}
-use Rattle.ossl_commands.specs.declared.limit.Limit.TheVariants.{Bytes, Lines, Callers, Contexts, Line, Total, File, Configuration}
+use Rattle.ossl_commands.specs.declared.limit.Limit.TheVariants.{Bytes, Lines, Callers, Contexts, Line, Total, File}
+use Rattle.ossl_commands.specs.declared.limit.Limit.TheVariants.{Configuration}
 
 abbrev pub limit_word : Limit → List ℕ
 limit_word Bytes = codes "bytes"

@@ -1,5 +1,6 @@
 -- The text of one line: which bytes it may hold, its words, and the query behind `:`.
-use Rattle.std.specs.Prelude.{ℕ, ◌==◌, nat_lt, Bool, true, false, not, ◌&&◌, ◌||◌, Option, Some, None, List, [], ◌∷◌, length, filter, if◌then◌else◌}
+use Rattle.std.specs.Prelude.{ℕ, ◌==◌, nat_lt, Bool, true, false, not, ◌&&◌, ◌||◌, Option, Some, None, List, [], ◌∷◌}
+use Rattle.std.specs.Prelude.{length, filter, if◌then◌else◌}
 use Rattle.std.specs.Int.{is_in_range}
 use Rattle.std.specs.List.{slice_split}
 use Rattle.ossl_property.specs.Bytes.{past}
@@ -41,12 +42,14 @@ starts_query at_start (byte ∷ text) = at_start && byte == 58 && ends_word text
 -- the text before the first word that is `:`, or all of it
 abbrev pub before_query : Bool → List ℕ → List ℕ
 before_query at_start [] = []
-before_query at_start (byte ∷ text) = if starts_query at_start (byte ∷ text) then [] else byte ∷ before_query (is_blank byte) text
+before_query at_start (byte ∷ text) =
+    if starts_query at_start (byte ∷ text) then [] else byte ∷ before_query (is_blank byte) text
 
 -- the query text: all that stands behind that word, spaces included
 abbrev pub query_text : Bool → List ℕ → Option (List ℕ)
 query_text at_start [] = None
-query_text at_start (byte ∷ text) = if starts_query at_start (byte ∷ text) then Some text else query_text (is_blank byte) text
+query_text at_start (byte ∷ text) =
+    if starts_query at_start (byte ∷ text) then Some text else query_text (is_blank byte) text
 
 -- what stands between spaces and tabs
 abbrev pub words_of : List ℕ → List (List ℕ)

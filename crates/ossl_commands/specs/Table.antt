@@ -1,4 +1,5 @@
--- The table of commands: for each its word, the command that its fixed words make, whether a query stands behind them, which other words may, and its options.
+-- The table of commands: for each its word, the command that its fixed words make, whether a query stands behind them,
+-- which other words may, and its options.
 use Rattle.std.specs.Prelude.{ℕ, Bool, true, false, Option, Some, None, List, [], ◌∷◌, codes, option_and_then}
 use Rattle.ossl_codes.specs.declared.code.Operation.{Operation}
 use Rattle.ossl_codes.specs.declared.code.Operation.TheVariants as operations
@@ -6,7 +7,8 @@ use Rattle.ossl_commands.specs.declared.command.Argument.{Argument}
 use Rattle.ossl_commands.specs.declared.command.Command.{Command}
 use Rattle.ossl_commands.specs.declared.command.Command.TheVariants as commands
 use Rattle.ossl_commands.specs.declared.command.Verb.{Verb}
-use Rattle.ossl_commands.specs.declared.command.Verb.TheVariants.{Load, Unload, Default, Fetch, UpRef, Free, Open, Feed, Finish, Close, CloseLib, Dgst, Mac, Enc, Kdf}
+use Rattle.ossl_commands.specs.declared.command.Verb.TheVariants.{Load, Unload, Default, Fetch, UpRef, Free, Open}
+use Rattle.ossl_commands.specs.declared.command.Verb.TheVariants.{Feed, Finish, Close, CloseLib, Dgst, Mac, Enc, Kdf}
 use Rattle.ossl_commands.specs.declared.table.Colon.{Colon}
 use Rattle.ossl_commands.specs.declared.table.Colon.TheVariants.{Never, May, Must}
 use Rattle.ossl_commands.specs.declared.table.Others.{Others}
@@ -75,15 +77,21 @@ name next = takes name_of next
 abbrev pub performs : Operation → List (List ℕ) → Begun
 performs operation = word (λ algorithm. makes (commands.Perform operation algorithm [] []))
 
--- the fixed words, the query, the other words and the options of each command; the last two are no part of the command yet
+-- the fixed words, the query, the other words and the options of each command; the last two are no part of the command
+-- yet
 abbrev pub row_of : Verb → Row
-row_of Load = row (lib (λ l. word (λ provider. name (λ bound. makes (commands.Load l provider bound false))))) Never Retain []
+row_of Load =
+    row (lib (λ l. word (λ provider. name (λ bound. makes (commands.Load l provider bound false))))) Never Retain []
 row_of Unload = row (name (λ used. makes (commands.Unload used))) Never Nothing []
 row_of Default = row (lib (λ l. makes (commands.Default l []))) Must Nothing []
-row_of Fetch = row (lib (λ l. op (λ operation. word (λ algorithm. name (λ bound. makes (commands.Fetch l operation algorithm bound [])))))) May Nothing []
+row_of Fetch =
+    row (lib (λ l. op (λ operation. word (λ algorithm. name (λ bound.
+    makes (commands.Fetch l operation algorithm bound [])))))) May Nothing []
 row_of UpRef = row (name (λ used. name (λ bound. makes (commands.UpRef used bound)))) Never Nothing []
 row_of Free = row (name (λ used. makes (commands.Free used))) Never Nothing []
-row_of Open = row (name (λ used. name (λ bound. makes (commands.Open used bound [])))) Never Nothing (codes "inner key iv dir pad salt info mode len")
+row_of Open =
+    row (name (λ used. name (λ bound. makes (commands.Open used bound [])))) Never Nothing
+    (codes "inner key iv dir pad salt info mode len")
 row_of Feed = row (name (λ used. makes (commands.Feed used []))) Never SomePieces []
 row_of Finish = row (name (λ used. makes (commands.Finish used))) Never Nothing []
 row_of Close = row (name (λ used. makes (commands.Close used))) Never Nothing []
@@ -102,8 +110,10 @@ are_any (argument ∷ arguments) = true
 abbrev pub filled : List Argument → List ℕ → Command → Command
 filled arguments query (commands.Load l provider bound kept) = commands.Load l provider bound (are_any arguments)
 filled arguments query (commands.Default l nothing) = commands.Default l query
-filled arguments query (commands.Fetch l operation algorithm bound nothing) = commands.Fetch l operation algorithm bound query
+filled arguments query (commands.Fetch l operation algorithm bound nothing) =
+    commands.Fetch l operation algorithm bound query
 filled arguments query (commands.Open used bound nothing) = commands.Open used bound arguments
 filled arguments query (commands.Feed used nothing) = commands.Feed used arguments
-filled arguments query (commands.Perform operation algorithm nothing other) = commands.Perform operation algorithm arguments query
+filled arguments query (commands.Perform operation algorithm nothing other) =
+    commands.Perform operation algorithm arguments query
 filled arguments query command = command

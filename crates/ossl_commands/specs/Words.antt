@@ -1,5 +1,6 @@
 -- What a single word says: a number, a caller, a name, data, or an option with its value.
-use Rattle.std.specs.Prelude.{ℕ, ◌==◌, nat_lt, Bool, true, false, ◌&&◌, ◌||◌, Option, Some, None, List, [], ◌∷◌, ◌++◌, length, codes, option_map, option_and_then, find, if◌then◌else◌}
+use Rattle.std.specs.Prelude.{ℕ, ◌==◌, nat_lt, Bool, true, false, ◌&&◌, ◌||◌, Option, Some, None, List, [], ◌∷◌, ◌++◌}
+use Rattle.std.specs.Prelude.{length, codes, option_map, option_and_then, find, if◌then◌else◌}
 use Rattle.std.specs.Char.{is_ascii_alphabetic, is_ascii_alphanumeric, is_ascii_lowercase}
 use Rattle.std.specs.List.{list_all, list_any, position_or_len}
 use Rattle.std.specs.Result.{result_ok}
@@ -13,7 +14,8 @@ use Rattle.ossl_codes.specs.declared.param.KdfMode.TheVariants.{Both, Extract, E
 use Rattle.ossl_commands.specs.declared.command.Data.{Data}
 use Rattle.ossl_commands.specs.declared.command.Data.TheVariants.{Bytes, Copies, File}
 use Rattle.ossl_commands.specs.declared.command.Argument.{Argument}
-use Rattle.ossl_commands.specs.declared.command.Argument.TheVariants.{Piece, Retain, Lib, Digest, Cipher, Inner, Key, Iv, Direction as Way, Pad, Salt, Info, Mode, Len}
+use Rattle.ossl_commands.specs.declared.command.Argument.TheVariants.{Piece, Retain, Lib, Digest, Cipher, Inner, Key}
+use Rattle.ossl_commands.specs.declared.command.Argument.TheVariants.{Iv, Direction as Way, Pad, Salt, Info, Mode, Len}
 use Rattle.ossl_commands.specs.declared.option.OptionKind.{OptionKind}
 use Rattle.ossl_commands.specs.declared.option.OptionKind.TheVariants as kinds
 
@@ -24,7 +26,9 @@ looked_up table word = option_map (λ row. row.1) (find (λ row. bytes_eq row.0 
 -- a text cut at the first such byte, which goes
 abbrev pub cut_at : ℕ → List ℕ → Option (List ℕ × List ℕ)
 cut_at separator [] = None
-cut_at separator (byte ∷ text) = if byte == separator then Some ([], text) else option_map (λ parts. (byte ∷ parts.0, parts.1)) (cut_at separator text)
+cut_at separator (byte ∷ text) =
+    if byte == separator then Some ([], text)
+    else option_map (λ parts. (byte ∷ parts.0, parts.1)) (cut_at separator text)
 
 -- a `0` with something behind it
 abbrev pub has_leading_zero : List ℕ → Bool
@@ -104,12 +108,18 @@ abbrev pub data_forms : Files → List (List ℕ × (List ℕ → Option (Data �
 data_forms files =
     (codes "hex", λ text. plain files (option_map Bytes (hex_of text)))
     ∷ (codes "text", λ text. plain files (Some (Bytes text)))
-    ∷ (codes "rep", λ text. plain files (option_and_then (λ parts. copies_of (number_of parts.0) (hex_of parts.1)) (cut_at 58 text)))
+    ∷ (
+      codes "rep",
+      λ text.
+          plain files (option_and_then (λ parts. copies_of (number_of parts.0) (hex_of parts.1)) (cut_at 58 text)),
+    )
     ∷ (codes "file", λ text. option_map (named files) (some_text text))
     ∷ []
 
 abbrev pub data_of : Files → List ℕ → Option (Data × Files)
-data_of files word = option_and_then (λ parts. option_and_then (λ form. form parts.1) (looked_up (data_forms files) parts.0)) (cut_at 58 word)
+data_of files word =
+    option_and_then (λ parts. option_and_then (λ form. form parts.1) (looked_up (data_forms files) parts.0))
+    (cut_at 58 word)
 
 -- an argument that data makes
 abbrev pub from_data : (Data → Argument) → Option (Data × Files) → Option (Argument × Files)
@@ -142,11 +152,15 @@ option_form kinds.Cipher files value = plain files (option_map Cipher (some_text
 option_form kinds.Inner files value = plain files (option_map Inner (name_of value))
 option_form kinds.Key files value = from_data Key (data_of files value)
 option_form kinds.Iv files value = from_data Iv (data_of files value)
-option_form kinds.Direction files value = plain files (option_map Way (looked_up ((codes "encrypt", Encrypt) ∷ (codes "decrypt", Decrypt) ∷ []) value))
-option_form kinds.Pad files value = plain files (option_map Pad (looked_up ((codes "yes", true) ∷ (codes "no", false) ∷ []) value))
+option_form kinds.Direction files value =
+    plain files (option_map Way (looked_up ((codes "encrypt", Encrypt) ∷ (codes "decrypt", Decrypt) ∷ []) value))
+option_form kinds.Pad files value =
+    plain files (option_map Pad (looked_up ((codes "yes", true) ∷ (codes "no", false) ∷ []) value))
 option_form kinds.Salt files value = from_data Salt (data_of files value)
 option_form kinds.Info files value = from_data Info (data_of files value)
-option_form kinds.Mode files value = plain files (option_map Mode (looked_up ((codes "both", Both) ∷ (codes "extract", Extract) ∷ (codes "expand", Expand) ∷ []) value))
+option_form kinds.Mode files value =
+    plain files (option_map Mode (
+    looked_up ((codes "both", Both) ∷ (codes "extract", Extract) ∷ (codes "expand", Expand) ∷ []) value))
 option_form kinds.Len files value = plain files (option_map Len (number_of value))
 
 abbrev pub option_of : Files → List ℕ → List ℕ → Option (Argument × Files)

@@ -2,7 +2,8 @@
 
 ghost use Rattle.std.specs.Prelude.{◌≡◌, filter_map, is_some, map, sum};
 ghost use Rattle.ossl_commands.specs.Counts.{arguments_in, callers_of, contexts_of, greatest, lib_in, libs_in};
-ghost use Rattle.ossl_commands.specs.Fits.{amounts, capped, data_length, declared_by, declared_in, first_passed, passed_limit};
+ghost use Rattle.ossl_commands.specs.Fits.{amounts, capped, data_length, declared_by, declared_in, first_passed};
+ghost use Rattle.ossl_commands.specs.Fits.{passed_limit};
 ghost use Rattle.ossl_commands.specs.declared.limit.Limit.TheVariants as limits;
 
 use crate::command::{Argument, Command, Data, Line};
@@ -165,7 +166,8 @@ fn is_file_passed(lengths: &[u64]) -> bool
     false
 }
 
-/// The first limit that is passed: what the text alone amounts to, then each file, and then the whole with these lengths.
+/// The first limit that is passed: what the text alone amounts to, then each file, and then the whole with these
+/// lengths.
 pub fn passed_limit(all: u64, lines: &[Line], lengths: &[u64]) -> Option<Limit>
     ensures limit { result ≡ passed_limit all lines.now lengths.now }
 {

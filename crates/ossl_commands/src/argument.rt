@@ -3,7 +3,8 @@
 ghost use Rattle.std.specs.Prelude.{◌≡◌, [], Ok, IfOk, MatchResult, map, option_map};
 ghost use Rattle.std.specs.List.{list_any};
 ghost use Rattle.std.specs.Str.{bytes_eq};
-ghost use Rattle.ossl_commands.specs.Judging.{IsFault, argument_of, arguments_of, excludes, is_inner, option_argument, other_argument};
+ghost use Rattle.ossl_commands.specs.Judging.{IsFault, argument_of, arguments_of, excludes, is_inner, option_argument};
+ghost use Rattle.ossl_commands.specs.Judging.{other_argument};
 ghost use Rattle.ossl_commands.specs.Table.{row_of};
 ghost use Rattle.ossl_commands.specs.Words.{option_name, option_word};
 
@@ -141,7 +142,8 @@ fn argument(
     before: &[Argument],
     word: &[u8],
 ) -> Result<Argument, LineRefused>
-    ensures { MatchResult result (λ said. argument_of (row_of verb) files.old before.now word.now (option_word word.now) ≡ Ok (said, files.new))
+    ensures { MatchResult result (λ said.
+        argument_of (row_of verb) files.old before.now word.now (option_word word.now) ≡ Ok (said, files.new))
         (λ e. IsFault e (argument_of (row_of verb) files.old before.now word.now (option_word word.now))) }
 {
     match option_word(word) {
@@ -160,7 +162,8 @@ pub fn arguments(
     verb: Verb,
     words: &mut Words<'_>,
 ) -> Result<Vec<Argument>, LineRefused>
-    ensures { MatchResult result (λ said. arguments_of (row_of verb) files.old [] words.old ≡ Ok (said.items, files.new))
+    ensures { MatchResult result (λ said.
+        arguments_of (row_of verb) files.old [] words.old ≡ Ok (said.items, files.new))
         (λ e. IsFault e (arguments_of (row_of verb) files.old [] words.old)) }
 {
     let mut said = Vec::new(alloc);

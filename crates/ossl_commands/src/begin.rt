@@ -60,7 +60,8 @@ impl Command {
         verb: Verb,
         words: &mut Words<'_>,
     ) -> Result<Option<Command>, AllocError>
-        ensures begun { IfOk result (λ begun. option_map (λ command. (command, words.new)) begun ≡ (row_of verb).fixed words.old) }
+        ensures begun { IfOk result (λ begun.
+            option_map (λ command. (command, words.new)) begun ≡ (row_of verb).fixed words.old) }
     {
         match verb {
             Verb::Load => load(alloc, words),
@@ -136,7 +137,8 @@ impl Command {
 }
 
 fn load(alloc: Global, words: &mut Words<'_>) -> Result<Option<Command>, AllocError>
-    ensures { IfOk result (λ begun. option_map (λ command. (command, words.new)) begun ≡ (row_of Verb.Load).fixed words.old) }
+    ensures { IfOk result (λ begun.
+        option_map (λ command. (command, words.new)) begun ≡ (row_of Verb.Load).fixed words.old) }
 {
     let Some(lib) = words.lib() else {
         return Ok(None);
@@ -156,7 +158,8 @@ fn load(alloc: Global, words: &mut Words<'_>) -> Result<Option<Command>, AllocEr
 }
 
 fn unload(alloc: Global, words: &mut Words<'_>) -> Result<Option<Command>, AllocError>
-    ensures { IfOk result (λ begun. option_map (λ command. (command, words.new)) begun ≡ (row_of Verb.Unload).fixed words.old) }
+    ensures { IfOk result (λ begun.
+        option_map (λ command. (command, words.new)) begun ≡ (row_of Verb.Unload).fixed words.old) }
 {
     let Some(name) = words.name() else {
         return Ok(None);
@@ -167,7 +170,8 @@ fn unload(alloc: Global, words: &mut Words<'_>) -> Result<Option<Command>, Alloc
 }
 
 fn default(alloc: Global, words: &mut Words<'_>) -> Result<Option<Command>, AllocError>
-    ensures { IfOk result (λ begun. option_map (λ command. (command, words.new)) begun ≡ (row_of Verb.Default).fixed words.old) }
+    ensures { IfOk result (λ begun.
+        option_map (λ command. (command, words.new)) begun ≡ (row_of Verb.Default).fixed words.old) }
 {
     let Some(lib) = words.lib() else {
         return Ok(None);
@@ -179,7 +183,8 @@ fn default(alloc: Global, words: &mut Words<'_>) -> Result<Option<Command>, Allo
 }
 
 fn fetch(alloc: Global, words: &mut Words<'_>) -> Result<Option<Command>, AllocError>
-    ensures { IfOk result (λ begun. option_map (λ command. (command, words.new)) begun ≡ (row_of Verb.Fetch).fixed words.old) }
+    ensures { IfOk result (λ begun.
+        option_map (λ command. (command, words.new)) begun ≡ (row_of Verb.Fetch).fixed words.old) }
 {
     let Some(lib) = words.lib() else {
         return Ok(None);
@@ -203,7 +208,8 @@ fn fetch(alloc: Global, words: &mut Words<'_>) -> Result<Option<Command>, AllocE
 }
 
 fn up_ref(alloc: Global, words: &mut Words<'_>) -> Result<Option<Command>, AllocError>
-    ensures { IfOk result (λ begun. option_map (λ command. (command, words.new)) begun ≡ (row_of Verb.UpRef).fixed words.old) }
+    ensures { IfOk result (λ begun.
+        option_map (λ command. (command, words.new)) begun ≡ (row_of Verb.UpRef).fixed words.old) }
 {
     let Some(method) = words.name() else {
         return Ok(None);
@@ -218,7 +224,8 @@ fn up_ref(alloc: Global, words: &mut Words<'_>) -> Result<Option<Command>, Alloc
 }
 
 fn free(alloc: Global, words: &mut Words<'_>) -> Result<Option<Command>, AllocError>
-    ensures { IfOk result (λ begun. option_map (λ command. (command, words.new)) begun ≡ (row_of Verb.Free).fixed words.old) }
+    ensures { IfOk result (λ begun.
+        option_map (λ command. (command, words.new)) begun ≡ (row_of Verb.Free).fixed words.old) }
 {
     let Some(name) = words.name() else {
         return Ok(None);
@@ -229,7 +236,8 @@ fn free(alloc: Global, words: &mut Words<'_>) -> Result<Option<Command>, AllocEr
 }
 
 fn open(alloc: Global, words: &mut Words<'_>) -> Result<Option<Command>, AllocError>
-    ensures { IfOk result (λ begun. option_map (λ command. (command, words.new)) begun ≡ (row_of Verb.Open).fixed words.old) }
+    ensures { IfOk result (λ begun.
+        option_map (λ command. (command, words.new)) begun ≡ (row_of Verb.Open).fixed words.old) }
 {
     let Some(method) = words.name() else {
         return Ok(None);
@@ -245,7 +253,8 @@ fn open(alloc: Global, words: &mut Words<'_>) -> Result<Option<Command>, AllocEr
 }
 
 fn feed(alloc: Global, words: &mut Words<'_>) -> Result<Option<Command>, AllocError>
-    ensures { IfOk result (λ begun. option_map (λ command. (command, words.new)) begun ≡ (row_of Verb.Feed).fixed words.old) }
+    ensures { IfOk result (λ begun.
+        option_map (λ command. (command, words.new)) begun ≡ (row_of Verb.Feed).fixed words.old) }
 {
     let Some(name) = words.name() else {
         return Ok(None);
@@ -257,7 +266,8 @@ fn feed(alloc: Global, words: &mut Words<'_>) -> Result<Option<Command>, AllocEr
 }
 
 fn finish(alloc: Global, words: &mut Words<'_>) -> Result<Option<Command>, AllocError>
-    ensures { IfOk result (λ begun. option_map (λ command. (command, words.new)) begun ≡ (row_of Verb.Finish).fixed words.old) }
+    ensures { IfOk result (λ begun.
+        option_map (λ command. (command, words.new)) begun ≡ (row_of Verb.Finish).fixed words.old) }
 {
     let Some(name) = words.name() else {
         return Ok(None);
@@ -268,7 +278,8 @@ fn finish(alloc: Global, words: &mut Words<'_>) -> Result<Option<Command>, Alloc
 }
 
 fn close(alloc: Global, words: &mut Words<'_>) -> Result<Option<Command>, AllocError>
-    ensures { IfOk result (λ begun. option_map (λ command. (command, words.new)) begun ≡ (row_of Verb.Close).fixed words.old) }
+    ensures { IfOk result (λ begun.
+        option_map (λ command. (command, words.new)) begun ≡ (row_of Verb.Close).fixed words.old) }
 {
     let Some(name) = words.name() else {
         return Ok(None);
@@ -279,7 +290,8 @@ fn close(alloc: Global, words: &mut Words<'_>) -> Result<Option<Command>, AllocE
 }
 
 fn close_lib(words: &mut Words<'_>) -> Result<Option<Command>, AllocError>
-    ensures { IfOk result (λ begun. option_map (λ command. (command, words.new)) begun ≡ (row_of Verb.CloseLib).fixed words.old) }
+    ensures { IfOk result (λ begun.
+        option_map (λ command. (command, words.new)) begun ≡ (row_of Verb.CloseLib).fixed words.old) }
 {
     let Some(lib) = words.lib() else {
         return Ok(None);

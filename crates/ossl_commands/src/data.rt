@@ -2,7 +2,8 @@
 
 ghost use Rattle.std.specs.Prelude.{◌≡◌, ◌++◌, IfOk, OnErr, OnOk, option_map, option_and_then, replicate};
 ghost use Rattle.ossl_commands.specs.Contents.{content_by, data_bytes};
-ghost use Rattle.ossl_commands.specs.Words.{cut_at, data_of, data_forms, hex_of, copies_of, looked_up, named, number_of, plain, some_text};
+ghost use Rattle.ossl_commands.specs.Words.{cut_at, data_of, data_forms, hex_of, copies_of, looked_up, named};
+ghost use Rattle.ossl_commands.specs.Words.{number_of, plain, some_text};
 
 use crate::command::Data;
 use crate::files::NamedFiles;
@@ -36,7 +37,8 @@ fn digits(alloc: Global, text: &[u8]) -> Result<Option<Vec<u8>>, AllocError>
 
 /// As many copies of a byte as `N:HH` says.
 fn copies(alloc: Global, text: &[u8]) -> Result<Option<Data>, AllocError>
-    ensures { IfOk result (λ given. given ≡ option_and_then (λ parts. copies_of (number_of parts.0) (hex_of parts.1)) (cut_at 58 text.now)) }
+    ensures { IfOk result (λ given.
+        given ≡ option_and_then (λ parts. copies_of (number_of parts.0) (hex_of parts.1)) (cut_at 58 text.now)) }
 {
     let Some((count, byte)) = cut_at(text, b':') else {
         return Ok(None);
@@ -53,7 +55,8 @@ fn copies(alloc: Global, text: &[u8]) -> Result<Option<Data>, AllocError>
 
 /// The file of a name, which is not empty.
 fn file(alloc: Global, files: &mut NamedFiles, name: &[u8]) -> Result<Option<Data>, AllocError>
-    ensures { IfOk result (λ read. option_map (λ said. (said, files.new)) read ≡ option_map (named files.old) (some_text name.now)) }
+    ensures { IfOk result (λ read.
+        option_map (λ said. (said, files.new)) read ≡ option_map (named files.old) (some_text name.now)) }
 {
     match name {
         [] => Ok(None),

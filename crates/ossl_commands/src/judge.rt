@@ -43,7 +43,8 @@ fn command(
     query: Option<&[u8]>,
 ) -> Result<Command, LineRefused>
     ensures { let text = option_map (λ text. text.now) query.entry in
-        MatchResult result (λ said. command_in verb files.old words.old text ≡ Ok (said, files.new)) (λ e. IsFault e (command_in verb files.old words.old text)) }
+        MatchResult result (λ said. command_in verb files.old words.old text ≡ Ok (said, files.new))
+        (λ e. IsFault e (command_in verb files.old words.old text)) }
 {
     let faulty = LineRefused::Faulty(LineKind::Arguments);
     let Some(begun) = Command::begin(alloc, verb, words)? else {
@@ -76,7 +77,8 @@ pub fn judge(
     files: &mut NamedFiles,
     line: &[u8],
 ) -> Result<(u32, Command), LineRefused>
-    ensures { MatchResult result (λ said. judged files.old line.now ≡ Ok (record { caller = said.0; command = said.1; files = files.new }))
+    ensures { MatchResult result (λ said.
+        judged files.old line.now ≡ Ok (record { caller = said.0; command = said.1; files = files.new }))
         (λ e. IsFault e (judged files.old line.now)) }
 {
     if !are_allowed(line) {

@@ -114,7 +114,8 @@ impl OptionKind {
         files: &mut NamedFiles,
         value: &[u8],
     ) -> Result<Option<Argument>, AllocError>
-        ensures read { IfOk result (λ read. option_map (λ said. (said, files.new)) read ≡ option_form self files.old value.now) }
+        ensures read { IfOk result (λ read.
+            option_map (λ said. (said, files.new)) read ≡ option_form self files.old value.now) }
     {
         match self {
             OptionKind::Lib => made!(number(value), Argument::Lib),

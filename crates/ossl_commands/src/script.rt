@@ -43,7 +43,8 @@ impl Model for Script {
 impl Script {
     /// The commands of a text, or its first faulty line.
     pub fn parse(alloc: Global, text: &[u8]) -> Result<Script, ScriptRefused>
-        ensures commands { IfOk result (λ s. commands_of text.now ≡ Ok (record { lines = s.commands; files = s.files })) }
+        ensures commands { IfOk result (λ s.
+            commands_of text.now ≡ Ok (record { lines = s.commands; files = s.files })) }
         ensures lines { IfOk result (λ s. s.lines ≡ line_count text.now) }
         ensures refused { IfErr result (λ e. IsRefusal e (commands_of text.now)) }
     {
@@ -102,8 +103,8 @@ impl Script {
         contexts(self.commands.as_slice())
     }
 
-    /// The first limit that the batch passes with these lengths of its files, in the order of their first naming; a file
-    /// without a length counts 0.
+    /// The first limit that the batch passes with these lengths of its files, in the order of their first naming; a
+    /// file without a length counts 0.
     pub fn fits(&self, lengths: &[u64]) -> Option<Limit>
         ensures limit { result ≡ passed_limit self.now.lines self.now.commands lengths.now }
     {
@@ -129,9 +130,11 @@ fn read_line(
     number: u64,
     line: &[u8],
 ) -> Result<(), ScriptRefused>
-    ensures ok { OnOk result ((behind : List (List ℕ)) → continued commands.old.items (commands_from number files.old (line.now ∷ behind))
+    ensures ok { OnOk result ((behind : List (List ℕ)) →
+        continued commands.old.items (commands_from number files.old (line.now ∷ behind))
         ≡ continued commands.new.items (commands_from (number + 1) files.new behind)) }
-    ensures refused { IfErr result (λ e. (behind : List (List ℕ)) → IsRefusal e (continued commands.old.items (commands_from number files.old (line.now ∷ behind)))) }
+    ensures refused { IfErr result (λ e. (behind : List (List ℕ)) →
+        IsRefusal e (continued commands.old.items (commands_from number files.old (line.now ∷ behind)))) }
 {
     if is_skipped(line) {
         return Ok(());

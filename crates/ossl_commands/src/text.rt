@@ -4,7 +4,8 @@ ghost use Rattle.std.specs.Prelude.{◌≡◌, ◌<◌, ◌≤◌, ◌∷◌, �
 ghost use Rattle.std.specs.List.{list_all};
 ghost use Rattle.std.specs.Str.Lines.{lines, strip_carriage_return};
 ghost use Rattle.ossl_property.specs.Bytes.{front, past};
-ghost use Rattle.ossl_commands.specs.Lines.{before_query, ends_word, is_allowed, is_blank, is_skipped, is_within_line, is_within_word, query_text, starts_query, words_of};
+ghost use Rattle.ossl_commands.specs.Lines.{before_query, ends_word, is_allowed, is_blank, is_skipped, is_within_line};
+ghost use Rattle.ossl_commands.specs.Lines.{is_within_word, query_text, starts_query, words_of};
 
 use std::marker::Model;
 

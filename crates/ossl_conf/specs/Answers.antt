@@ -1,6 +1,7 @@
--- The same reading where it is left open what files answer: they may fail, and files that do not tell their contents may
--- answer a name differently each time.
-use Rattle.std.specs.Prelude.{◌≡◌, ◌≤◌, ◌<◌, ℕ, zero, suc, nat_lt, Option, Some, None, Result, Ok, Err, List, [], ◌∷◌, length, if◌then◌else◌}
+-- The same reading where it is left open what files answer: they may fail, and files that do not tell their contents
+-- may answer a name differently each time.
+use Rattle.std.specs.Prelude.{◌≡◌, ◌≤◌, ◌<◌, ℕ, zero, suc, nat_lt, Option, Some, None, Result, Ok, Err, List, [], ◌∷◌}
+use Rattle.std.specs.Prelude.{length, if◌then◌else◌}
 use Rattle.ossl_base.specs.declared.files.FileRefusal.{FileRefusal}
 use Rattle.ossl_base.specs.declared.files.FileRefusal.TheVariants.{Failed, TooLong, NoMemory}
 use Rattle.ossl_base.specs.Causes.{Rose}
@@ -13,10 +14,12 @@ use Rattle.ossl_conf.specs.declared.refusal.ConfRefused.TheVariants as refused
 use Rattle.ossl_conf.specs.View.{SettingsView}
 use Rattle.ossl_conf.specs.Sections.{Sections}
 use Rattle.ossl_conf.specs.Said.{Said, said, includes}
-use Rattle.ossl_conf.specs.Reading.{Conf, ◌>>=◌, Answering, nothing_read, file_of, after_plain, within_file, after_file, content_of, most_depth}
+use Rattle.ossl_conf.specs.Reading.{Conf, ◌>>=◌, Answering, nothing_read, file_of, after_plain, within_file}
+use Rattle.ossl_conf.specs.Reading.{after_file, content_of, most_depth}
 use Rattle.ossl_conf.specs.Settings.{settings_in}
 
--- what files that are told answer where none fails: a name that is not there fails, a content that is too long is refused
+-- what files that are told answer where none fails: a name that is not there fails, a content that is too long is
+-- refused
 abbrev pub answer_within : ℕ → Option (List ℕ) → Result (List ℕ) FileRefusal
 answer_within limit None = Err Failed
 answer_within limit (Some content) = if nat_lt limit (length content) then Err TooLong else Ok content
@@ -42,7 +45,8 @@ Then (Err refusal) P result = result ≡ Err refusal
 
 -- the answer to a line
 abbrev pub AfterLine : MayInclude → Conf → ℕ → Said → Result Conf ConfRefused → Type 0
-AfterLine MayInc conf number (includes text) result = Then (file_of conf number text) (λ name. MayInc conf number name result) result
+AfterLine MayInc conf number (includes text) result =
+    Then (file_of conf number text) (λ name. MayInc conf number name result) result
 AfterLine MayInc conf number line result = result ≡ after_plain conf number line
 
 -- the answer to these lines

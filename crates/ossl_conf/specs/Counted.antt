@@ -1,4 +1,5 @@
--- What counts of a line, and of a part of it: a range of its bytes, without the comment and without what is dropped at its ends.
+-- What counts of a line, and of a part of it: a range of its bytes, without the comment and without what is dropped at
+-- its ends.
 use Rattle.std.specs.Prelude.{ℕ, ◌+◌, ◌==◌, Bool, true, false, ◌&&◌, ◌||◌, List, [], ◌∷◌, take, drop, if◌then◌else◌}
 use Rattle.std.specs.List.{prefix_len}
 use Rattle.std.specs.Str.{byte}
@@ -8,7 +9,8 @@ use Rattle.ossl_conf.specs.declared.counted.Place.TheVariants.{Outside, BehindSl
 
 -- where the next byte stands; quoted parts may begin where quotes says so
 abbrev pub place_after : Bool → Place → ℕ → Place
-place_after quotes Outside b = if b == byte "\\" then BehindSlash else if quotes && is_quote b then Within b else Outside
+place_after quotes Outside b =
+    if b == byte "\\" then BehindSlash else if quotes && is_quote b then Within b else Outside
 place_after quotes BehindSlash b = Outside
 place_after quotes (Within quote) b = if b == quote then Outside else Within quote
 
@@ -29,13 +31,14 @@ dropped slash b = is_blank b || (slash && b == byte "\\")
 abbrev pub begins_comment : Place → ℕ → Bool
 begins_comment place b = is_free place && b == byte "#"
 
--- where a text ends that has no comment and none of the bytes that are dropped at its end. The bytes from place `at` on are
--- left, and what stays of those before it ends at `end`
+-- where a text ends that has no comment and none of the bytes that are dropped at its end. The bytes from place `at`
+-- on are left, and what stays of those before it ends at `end`
 abbrev pub end_of : Bool → Bool → Place → ℕ → ℕ → List ℕ → ℕ
 end_of quotes slash place at end [] = end
 end_of quotes slash place at end (b ∷ text) =
     if begins_comment place b then end
-    else end_of quotes slash (place_after quotes place b) (at + 1) (if is_free place && dropped slash b then end else at + 1) text
+    else end_of quotes slash (place_after quotes place b) (at + 1)
+    (if is_free place && dropped slash b then end else at + 1) text
 
 -- the text without the blanks at its front
 abbrev pub past_blanks : List ℕ → List ℕ

@@ -1,5 +1,5 @@
--- What a configuration text says (config(5), with rules of this project's own), step by step: logical lines, what counts of
--- them, values, sections, what a line says, the reading of all lines with included files, and the settings.
+-- What a configuration text says (config(5), with rules of this project's own), step by step: logical lines, what
+-- counts of them, values, sections, what a line says, the reading of all lines with included files, and the settings.
 pub mod View
 pub mod Refused
 pub mod Lines

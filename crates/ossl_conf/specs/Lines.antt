@@ -34,14 +34,15 @@ is_joined line = ends_in (byte "\\") line
 -- what is begun when a line follows it: the number of its first line, and its text so far
 abbrev pub begun_after : LogicalLine → ℕ → List ℕ → LogicalLine
 begun_after begun next line =
-    if is_joined line then record begun { text = begun.text ++ without_last line } else record { number = next; text = [] }
+    if is_joined line then record begun { text = begun.text ++ without_last line }
+    else record { number = next; text = [] }
 
 -- the logical line that this line ends, where it has no `\` right before its end
 abbrev pub ended_by : LogicalLine → List ℕ → List LogicalLine
 ended_by begun line = if is_joined line then [] else record begun { text = begun.text ++ line } ∷ []
 
--- the logical lines of the pieces that are left, where one is begun, and the next piece has this number. The last piece of a
--- text has no end
+-- the logical lines of the pieces that are left, where one is begun, and the next piece has this number. The last
+-- piece of a text has no end
 abbrev pub lines_from : LogicalLine → ℕ → List (List ℕ) → List LogicalLine
 lines_from begun number [] = []
 lines_from begun number (piece ∷ []) = record begun { text = begun.text ++ piece } ∷ []

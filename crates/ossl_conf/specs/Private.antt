@@ -1,5 +1,7 @@
--- What the contracts of private functions cite: what stands for their values, and the state of a value that is being read.
-use Rattle.std.specs.Prelude.{◌≡◌, ℕ, ◌+◌, ◌==◌, nat_lt, Bool, true, false, not, Option, Some, None, Result, Ok, Err, List, [], ◌∷◌, length, ⊤}
+-- What the contracts of private functions cite: what stands for their values, and the state of a value that is being
+-- read.
+use Rattle.std.specs.Prelude.{◌≡◌, ℕ, ◌+◌, ◌==◌, nat_lt, Bool, true, false, not, Option, Some, None, Result, Ok, Err}
+use Rattle.std.specs.Prelude.{List, [], ◌∷◌, length, ⊤}
 use Rattle.std.specs.Option.{option_copied}
 use Rattle.ossl_property.specs.Bytes.{is_word_byte}
 use Rattle.ossl_conf.specs.declared.run.Class.{Class}

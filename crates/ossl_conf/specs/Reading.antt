@@ -1,5 +1,6 @@
 -- The reading of all lines of a text and of the files that it includes, up to the first refused line or file.
-use Rattle.std.specs.Prelude.{ℕ, zero, suc, ◌+◌, ◌-◌, nat_lt, Option, Some, None, Result, Ok, Err, List, [], ◌∷◌, length, unwrap_or, if◌then◌else◌}
+use Rattle.std.specs.Prelude.{ℕ, zero, suc, ◌+◌, ◌-◌, nat_lt, Option, Some, None, Result, Ok, Err, List, [], ◌∷◌}
+use Rattle.std.specs.Prelude.{length, unwrap_or, if◌then◌else◌}
 use Rattle.ossl_base.specs.declared.files.FileRefusal.{FileRefusal}
 use Rattle.ossl_conf.specs.declared.kind.ConfKind.TheVariants.{Name, Length, Growth, Depth}
 use Rattle.ossl_conf.specs.declared.refusal.ConfRefused.{ConfRefused}
@@ -25,8 +26,8 @@ most_bytes = 1048576
 abbrev pub most_depth : ℕ
 most_depth = 4
 
--- what was read so far: the current section, all sections, the sum of the lengths of all values set, and how many bytes files
--- may still have
+-- what was read so far: the current section, all sections, the sum of the lengths of all values set, and how many
+-- bytes files may still have
 pub record Conf : Type 0 where
   pub current : List ℕ
   pub sections : Sections

@@ -6,7 +6,8 @@ use Rattle.std.specs.Str.{byte}
 use Rattle.ossl_conf.specs.declared.kind.ConfKind.{ConfKind}
 use Rattle.ossl_conf.specs.declared.kind.ConfKind.TheVariants.{Bracket, Directive, Equals, Name, Length, Growth, Depth}
 use Rattle.ossl_conf.specs.declared.refusal.ConfRefused.{ConfRefused}
-use Rattle.ossl_conf.specs.declared.refusal.ConfRefused.TheVariants.{Line, NoVariable, NoSection, BadActivate, BadQuery, File, NoMemory}
+use Rattle.ossl_conf.specs.declared.refusal.ConfRefused.TheVariants.{Line, NoVariable, NoSection, BadActivate}
+use Rattle.ossl_conf.specs.declared.refusal.ConfRefused.TheVariants.{BadQuery, File, NoMemory}
 use Rattle.ossl_base.specs.declared.files.FileRefusal.{FileRefusal}
 use Rattle.ossl_base.specs.declared.files.FileRefusal.TheVariants as files
 
@@ -36,8 +37,10 @@ file_text files.NoMemory = []
 
 -- the error line, and nothing for want of memory
 abbrev pub refusal_text : ConfRefused → List ℕ
-refusal_text (Line number kind) = codes "error configuration line " ++ decimal number ++ codes " " ++ kind_text kind ++ codes "\n"
-refusal_text (NoVariable number name) = codes "error configuration line " ++ decimal number ++ codes " variable " ++ shown name ++ codes "\n"
+refusal_text (Line number kind) =
+    codes "error configuration line " ++ decimal number ++ codes " " ++ kind_text kind ++ codes "\n"
+refusal_text (NoVariable number name) =
+    codes "error configuration line " ++ decimal number ++ codes " variable " ++ shown name ++ codes "\n"
 refusal_text (NoSection name) = codes "error configuration section " ++ shown name ++ codes "\n"
 refusal_text (BadActivate word) = codes "error configuration activate " ++ shown word ++ codes "\n"
 refusal_text (BadQuery place) = codes "error configuration query " ++ decimal place ++ codes "\n"

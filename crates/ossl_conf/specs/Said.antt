@@ -1,5 +1,6 @@
 -- What a logical line says.
-use Rattle.std.specs.Prelude.{ℕ, ◌==◌, nat_eq, Bool, false, true, ◌&&◌, ◌||◌, Option, Some, None, List, [], ◌∷◌, codes, drop, if◌then◌else◌}
+use Rattle.std.specs.Prelude.{ℕ, ◌==◌, nat_eq, Bool, false, true, ◌&&◌, ◌||◌, Option, Some, None, List, [], ◌∷◌, codes}
+use Rattle.std.specs.Prelude.{drop, if◌then◌else◌}
 use Rattle.std.specs.List.{list_any, before_first, after_first, starts_with}
 use Rattle.std.specs.Str.{byte}
 use Rattle.ossl_conf.specs.declared.kind.ConfKind.{ConfKind}
@@ -7,8 +8,9 @@ use Rattle.ossl_conf.specs.declared.kind.ConfKind.TheVariants.{Bracket, Directiv
 use Rattle.ossl_conf.specs.Counted.{is_blank, past_blanks, ended, counted_value, trimmed}
 use Rattle.ossl_conf.specs.Values.{cut_at_colons}
 
--- what a line says: nothing, that a section is opened, that a name is set (in the current section or in one that is named)
--- to a value that is still to be read, that a file is included whose name is still to be read, or nothing that can be read
+-- what a line says: nothing, that a section is opened, that a name is set (in the current section or in one that is
+-- named) to a value that is still to be read, that a file is included whose name is still to be read, or nothing that
+-- can be read
 pub data Said : Type 0 where
   nothing : Said
   opens : List ℕ → Said
@@ -66,8 +68,8 @@ abbrev pub past_equals : List ℕ → List ℕ
 past_equals [] = []
 past_equals (b ∷ text) = if b == byte "=" then text else b ∷ text
 
--- behind a `.`, by the whole line and what counts of it behind the `.`: `include`, and the name of a file behind blanks and
--- at most one `=`. The name is a value, in which quoted parts may begin
+-- behind a `.`, by the whole line and what counts of it behind the `.`: `include`, and the name of a file behind
+-- blanks and at most one `=`. The name is a value, in which quoted parts may begin
 abbrev pub directive_said : List ℕ → List ℕ → Said
 directive_said text line =
     if starts_with nat_eq line (codes "include") && begins_name (drop 7 line) then

@@ -40,4 +40,5 @@ default_section = codes "default"
 
 -- the value of a variable: that of the section, else that of `default`
 abbrev pub variable_value : Sections → List ℕ → List ℕ → Option (List ℕ)
-variable_value sections section name = option_or (value_in sections section name) (value_in sections default_section name)
+variable_value sections section name =
+    option_or (value_in sections section name) (value_in sections default_section name)

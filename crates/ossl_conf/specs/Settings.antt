@@ -1,5 +1,6 @@
 -- The settings of a configuration, read from its sections when all lines were accepted.
-use Rattle.std.specs.Prelude.{ℕ, Bool, true, false, Option, Some, None, Result, Ok, Err, List, [], ◌∷◌, ◌++◌, codes, unwrap_or, if◌then◌else◌}
+use Rattle.std.specs.Prelude.{ℕ, Bool, true, false, Option, Some, None, Result, Ok, Err, List, [], ◌∷◌, ◌++◌, codes}
+use Rattle.std.specs.Prelude.{unwrap_or, if◌then◌else◌}
 use Rattle.std.specs.List.{list_any}
 use Rattle.std.specs.Option.{ok_or}
 use Rattle.std.specs.Str.{str_eq_ignore_ascii_case}
@@ -35,7 +36,8 @@ abbrev pub activates : Option (List ℕ) → Result Bool ConfRefused
 activates None = Ok false
 activates (Some word) = ok_or (is_on word) (BadActivate word)
 
--- a provider's section by the name and the value of its entry, and the name that is activated: `identity`, else the entry's
+-- a provider's section by the name and the value of its entry, and the name that is activated: `identity`, else the
+-- entry's
 abbrev pub activation : Sections → List ℕ × List ℕ → Result (List (List ℕ)) ConfRefused
 activation sections entry =
     named sections entry.1 >>= λ section.

@@ -1,11 +1,13 @@
 -- A value: quoted parts, escapes and variables.
-use Rattle.std.specs.Prelude.{ℕ, zero, suc, ◌+◌, ◌==◌, nat_eq, Option, Some, None, Result, Ok, Err, List, [], ◌∷◌, ◌++◌, length, take, drop, codes, if◌then◌else◌, Bool}
+use Rattle.std.specs.Prelude.{ℕ, zero, suc, ◌+◌, ◌==◌, nat_eq, Option, Some, None, Result, Ok, Err, List, [], ◌∷◌}
+use Rattle.std.specs.Prelude.{◌++◌, length, take, drop, codes, if◌then◌else◌, Bool}
 use Rattle.std.specs.List.{list_any, starts_with, before_first, prefix_len}
 use Rattle.std.specs.Option.{ok_or, option_map}
 use Rattle.std.specs.Str.{byte}
 use Rattle.ossl_property.specs.Bytes.{is_quote, is_word_byte}
 
--- a part of a value: bytes as they stand in it, a variable by its name as written, or a bracketed name whose closing bracket is missing
+-- a part of a value: bytes as they stand in it, a variable by its name as written, or a bracketed name whose closing
+-- bracket is missing
 pub data Part : Type 0 where
   bytes : List ℕ → Part
   variable : List ℕ → Part
@@ -14,7 +16,8 @@ pub data Part : Type 0 where
 -- what `\` and this byte stand for: `\n`, `\r`, `\t`, `\b` for the control bytes, any other byte for itself
 abbrev pub escaped : ℕ → ℕ
 escaped b =
-    if b == byte "n" then 10 else if b == byte "r" then 13 else if b == byte "t" then 9 else if b == byte "b" then 8 else b
+    if b == byte "n" then 10 else if b == byte "r" then 13
+    else if b == byte "t" then 9 else if b == byte "b" then 8 else b
 
 -- a part, and how many of the bytes behind its first one belong to it
 abbrev pub Taken : Type 0
@@ -39,8 +42,8 @@ bracketed_at close text =
 abbrev pub begins_with_colons : List ℕ → Bool
 begins_with_colons text = starts_with nat_eq text (codes "::")
 
--- how long a bare name is: the longest run of letters, digits and `_`, and, where `::` follows it, that and the longest run
--- behind it
+-- how long a bare name is: the longest run of letters, digits and `_`, and, where `::` follows it, that and the
+-- longest run behind it
 abbrev pub bare_len : List ℕ → ℕ
 bare_len text =
     let run = prefix_len is_word_byte text in

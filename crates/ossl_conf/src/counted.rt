@@ -44,8 +44,8 @@ impl Place {
     }
 }
 
-// Where what counts of a text ends: before a comment, without the blanks at its end, and without a `\` that is the last byte
-// where `slash` says so.
+// Where what counts of a text ends: before a comment, without the blanks at its end, and without a `\` that is the
+// last byte where `slash` says so.
 fn end_of(quotes: bool, slash: bool, text: &[u8]) -> usize
     ensures end { result ≡ end_of quotes slash Place.Outside 0 0 text.now }
     ensures within { result ≤ length text.now }

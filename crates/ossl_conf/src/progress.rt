@@ -20,7 +20,8 @@ use std::alloc::{AllocError, Global};
 /// The greatest sum of the lengths of all values that are set.
 const MOST_VALUES: u64 = 16_777_216;
 
-/// The greatest number of bytes of a configuration with all files that it includes, each counted as often as it is read.
+/// The greatest number of bytes of a configuration with all files that it includes, each counted as often as it is
+/// read.
 pub const MOST_BYTES: u64 = 1_048_576;
 
 /// What was read so far.
@@ -44,7 +45,8 @@ impl Progress {
     ghost use Rattle.ossl_conf.specs.Places.{value_at_or_default};
     ghost use Rattle.ossl_conf.specs.Private.{after, part_of, shown_said, IsSoFar, Puts};
     ghost use Rattle.ossl_conf.specs.Progress.{conf_of};
-    ghost use Rattle.ossl_conf.specs.Reading.{after_plain, after_setting, file_of, nothing_read, value_by_name, value_of};
+    ghost use Rattle.ossl_conf.specs.Reading.{after_plain, after_setting, file_of, nothing_read, value_by_name};
+    ghost use Rattle.ossl_conf.specs.Reading.{value_of};
     ghost use Rattle.ossl_conf.specs.Values.{text_of};
 
     /// What begins before the first line of a text.
@@ -66,7 +68,8 @@ impl Progress {
         number: u64,
         said: Statement<'_>,
     ) -> Result<(), ConfRefused>
-        ensures read { Answers (after (conf_of self.new) result) (after_plain (conf_of self.old) number (shown_said said.entry)) }
+        ensures read { Answers (after (conf_of self.new) result)
+            (after_plain (conf_of self.old) number (shown_said said.entry)) }
         ensures others { Stays (all_sections self.old.sections) (all_sections self.new.sections) }
     {
         match said {
@@ -126,7 +129,8 @@ impl Progress {
         Ok(name)
     }
 
-    // The value that a text has in a line of this number. Every variable is looked up, also where the value is too long.
+    // The value that a text has in a line of this number. Every variable is looked up, also where the value is too
+    // long.
     fn value_of(&self, alloc: Global, number: u64, text: &[u8]) -> Result<Text, ConfRefused>
         ensures { Answers result (value_of (conf_of self.now) number text.now) }
     {
@@ -189,7 +193,8 @@ impl Progress {
         place: Option<usize>,
         name: &[u8],
     ) -> Result<Option<&[u8]>, AllocError>
-        ensures { IfOk result (λ value. option_copied value ≡ value_at_or_default (all_sections self.now.sections) place name.now) }
+        ensures { IfOk result (λ value.
+            option_copied value ≡ value_at_or_default (all_sections self.now.sections) place name.now) }
     {
         if let Some(place) = place {
             if let Some(value) = self.sections.value(alloc, place, name)? {
@@ -243,9 +248,11 @@ fn open_section(
 ) -> Result<usize, AllocError>
     requires { IsPlace (all_sections sections.old) current }
     ensures sections { OnOk result (let old = all_sections sections.old in
-        all_sections sections.new ≡ with_section (unwrap_or (option_copied named.entry) (current_name old current)) old) }
+        all_sections sections.new
+        ≡ with_section (unwrap_or (option_copied named.entry) (current_name old current)) old) }
     ensures place { IfOk result (λ at. let old = all_sections sections.old in
-        place_of (all_sections sections.new) (unwrap_or (option_copied named.entry) (current_name old current)) ≡ Some at) }
+        place_of (all_sections sections.new) (unwrap_or (option_copied named.entry) (current_name old current))
+        ≡ Some at) }
     ensures others { Stays (all_sections sections.old) (all_sections sections.new) }
 {
     match (named, current) {

@@ -4,7 +4,8 @@ ghost use Rattle.std.specs.Prelude.{◌≡◌, ◌⊎◌, ◌≤◌, ℕ, List, 
 ghost use Rattle.ossl_base.specs.declared.files.FileRefusal.{FileRefusal};
 ghost use Rattle.ossl_base.specs.Causes.{Rose};
 ghost use Rattle.ossl_base.specs.Files.{Entries, LacksName};
-ghost use Rattle.ossl_conf.specs.Answers.{mapped, told, AfterLine, AfterLines, ButForMemory, IsAnswer, IsFaulty, MayAnswer, MayIncludeAt};
+ghost use Rattle.ossl_conf.specs.Answers.{mapped, told, AfterLine, AfterLines, ButForMemory, IsAnswer, IsFaulty};
+ghost use Rattle.ossl_conf.specs.Answers.{MayAnswer, MayIncludeAt};
 ghost use Rattle.ossl_conf.specs.Lines.{logical_lines};
 ghost use Rattle.ossl_conf.specs.Private.{after};
 ghost use Rattle.ossl_conf.specs.Kept.{all_sections};

@@ -2,7 +2,8 @@
 
 ghost use Rattle.std.specs.Prelude.{◌≡◌};
 ghost use Rattle.std.specs.Option.{option_map};
-ghost use Rattle.ossl_conf.specs.Said.{begins_name, directive_said, opens_named, past_equals, said, section_said, sets_named, setting_said};
+ghost use Rattle.ossl_conf.specs.Said.{begins_name, directive_said, opens_named, past_equals, said, section_said};
+ghost use Rattle.ossl_conf.specs.Said.{sets_named, setting_said};
 ghost use Rattle.ossl_conf.specs.Values.{begins_with_colons, cut_at_colons};
 ghost use Rattle.ossl_conf.specs.Private.{shown_said};
 

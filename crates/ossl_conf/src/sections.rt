@@ -11,8 +11,8 @@ use std::alloc::{AllocError, Global};
 /// A name in a section. Most names have at most 16 bytes, which need no memory of their own.
 pub(crate) type Name = SmallVec<u8, 16>;
 
-/// Sections, each a list of names and values, in the order in which they were first set. Look-ups take time by the names'
-/// lengths, and not by how many there are.
+/// Sections, each a list of names and values, in the order in which they were first set. Look-ups take time by the
+/// names' lengths, and not by how many there are.
 #[derive(Drop)]
 pub(crate) struct SectionMap {
     pub names: IndexSet<Vec<u8>>,

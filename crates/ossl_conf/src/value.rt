@@ -8,8 +8,8 @@ use std::alloc::{AllocError, Global};
 /// The greatest length of a value.
 pub(crate) const MOST_VALUE: usize = 65_535;
 
-/// The bytes of a value so far. They are kept only while they are not too many, so that a value takes no more memory than it
-/// may have.
+/// The bytes of a value so far. They are kept only while they are not too many, so that a value takes no more memory
+/// than it may have.
 #[derive(Drop)]
 pub(crate) struct Value {
     pub bytes: Vec<u8>,

@@ -3,8 +3,8 @@
 ghost use Rattle.std.specs.Prelude.{◌≡◌};
 ghost use Rattle.ossl_conf.specs.Settings.{is_on};
 
-/// Whether a word of `activate` is on (`1`, `yes`, `true`, `on`) or off (`0`, `no`, `false`, `off`), whatever its case; `None`
-/// for any other word.
+/// Whether a word of `activate` is on (`1`, `yes`, `true`, `on`) or off (`0`, `no`, `false`, `off`), whatever its
+/// case; `None` for any other word.
 pub fn is_on(word: &[u8]) -> Option<bool>
     ensures { result ≡ is_on word.now }
 {

@@ -6,7 +6,8 @@ use ossl_conf::{MOST_BYTES, is_on, read_conf};
 use std::alloc::{AllocError, Global};
 use std::test::Fail;
 
-/// The files of this page by their names. They do not tell their contents, and the call of one number fails, the first being 1.
+/// The files of this page by their names. They do not tell their contents, and the call of one number fails, the first
+/// being 1.
 #[derive(Drop)]
 struct Folder {
     fail: u64,

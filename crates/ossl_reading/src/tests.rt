@@ -67,7 +67,8 @@ fn faulty_lines_are_told(rt: HostRuntime) {
     }
 }
 
-// A tab or a byte from 32 to 126 at each place of one line, in this order: a batch or a kind, by the rules of the language.
+// A tab or a byte from 32 to 126 at each place of one line, in this order: a batch or a kind, by the rules of the
+// language.
 const LINE: &[u8] = b"3 mac M_ hex:0a lib=1 : q";
 
 const LETTERS: [&str; 25] = [
