@@ -135,14 +135,25 @@ in_step_after key iv held used count g law now next some room fits =
       current = λ part. let same : used / 64 ≡ (used + count) / 64 = omega arith in now ∙ ap (block_at key iv) same;
     }
 
--- what stays in step where four blocks were drawn at a block, and all of them are used
-pub in_step_run : (key iv held : List ℕ) (used : ℕ) (g : ChaCha) → GivesKeyStream key iv (generator_at key iv 0)
-    → used % 64 ≡ 0 → g ≡ generator_at key iv (used / 64 + 4) → used + 256 ≤ stream_len iv
-    → IsInStep key iv held (used + 256) g
-in_step_run key iv held used g law at next fits =
-    let drawn : (used + 256 + 63) / 64 ≡ used / 64 + 4 = omega (arith, at) in record {
+-- what stays in step where m blocks were drawn at a block, and all of them are used, or a part of one
+pub in_step_drawn : (key iv held bytes : List ℕ) (used count m : ℕ) (g : ChaCha) → GivesKeyStream key iv (generator_at key iv 0)
+    → used % 64 ≡ 0 → bytes ≡ blocks_at key iv (used / 64) m → g ≡ generator_at key iv (used / 64 + m)
+    → held ≡ drop (64 * m - 64) bytes → 0 < count → count ≤ 64 * m → (1 < m → count ≡ 64 * m)
+    → used + count ≤ stream_len iv → IsInStep key iv held (used + count) g
+in_step_drawn key iv held bytes used count m g law at are next kept some room whole fits =
+    let drawn : (used + count + 63) / 64 ≡ used / 64 + m = elim (cases_lt 1 m) [
+      | inl more ↦ omega (arith, whole more, at)
+      | inr less ↦ omega arith
+    ] in record {
       within = fits;
       words_are = law;
       place = next ∙ ap (generator_at key iv) (sym drawn);
-      current = λ part. absurd (omega (arith, part, at));
+      current = λ part. elim (cases_lt 1 m) [
+        | inl more ↦ absurd (omega (arith, whole more, part, at))
+        | inr less ↦
+            let one : m ≡ 1 = omega arith in
+            let same : used / 64 ≡ (used + count) / 64 = omega (arith, part, at) in
+            kept ∙ ap (λ (k : ℕ). drop (64 * k - 64) bytes) one ∙ are ∙ ap (blocks_at key iv (used / 64)) one
+            ∙ one_block key iv (used / 64) ∙ ap (block_at key iv) same
+      ];
     }

@@ -1,10 +1,9 @@
 -- A text goes on from byte to byte, from block to block, and from piece to piece.
 use Rattle.std.proofs.Common.{◌≡◌, ℕ, zero, suc, ◌+◌, ◌-◌, ◌*◌, ◌/◌, ◌%◌, ◌<◌, ◌≤◌, List, [], ◌∷◌, ◌++◌, length, get_or, set, take, drop, bit_xor, refl, sym, ap, ◌∙◌, min, append_assoc, length-append, arith, inl, inr}
-use Rattle.std.proofs.lemmas.List.{drop_more, take_more_set, drop-set-lt, append-nil, take_all, take_at, drop_at, drop_all, take-append-drop, length-take, length-take-le, length-drop, drop-drop}
+use Rattle.std.proofs.lemmas.List.{drop_more, take_more_set, drop-set-lt, append-nil, take_all, take_at, drop_at, drop_all, take-append-drop, length-take, length-take-le, length-drop}
 use Rattle.std.proofs.lemmas.Bool.{cases_lt}
 use borrow.Rule.Slice.PartMut.{put_mid}
-use Rattle.std.proofs.Math.Seq.{take-add}
-use Rattle.ossl_chacha.specs.KeyStream.{ChaChaState, block_at, front_text, further, key_byte, text_from, xored}
+use Rattle.ossl_chacha.specs.KeyStream.{block_at, key_byte, text_from, xored}
 use Rattle.ossl_chacha.proofs.Refill.{blocks_at, length-block_at}
 
 -- one byte further in a text that is xored in place
@@ -97,38 +96,25 @@ xored-take [] ys = refl
 xored-take (x ∷ xs) [] = refl
 xored-take (x ∷ xs) (y ∷ ys) = ap (λ (t : List ℕ). bit_xor x y ∷ t) (xored-take xs ys)
 
--- where the first bytes of a text are done, the next ones are done behind them
-pub front_more : (stream : ChaChaState) (old text new : List ℕ) (done count : ℕ) → done + count ≤ length old
-    → text ≡ front_text stream done old → new ≡ front_text (further stream done) count (drop done text)
-    → take done text ++ new ≡ front_text stream (done + count) old
-front_more stream old text new done count fits was next =
-    let at : ℕ → List ℕ → List ℕ = text_from stream.key stream.iv in
-    let part = at stream.used (take done old) in
-    let rest = drop done old in
-    let more = at (stream.used + done) (take count rest) in
-    let taken : length (take done old) ≡ done = length-take-le done old (omega arith) in
-    let size : length part ≡ done = length-text_from stream.key stream.iv stream.used (take done old) ∙ taken in
-    let front : take done text ≡ part = ap (take done) was ∙ take_at part rest done size in
-    let back : drop done text ≡ rest = ap (drop done) was ∙ drop_at part rest done size in
-    let whole : at stream.used (take (done + count) old) ≡ part ++ more =
-    ap (at stream.used) (take-add done count old)
-    ∙ text_from-append stream.key stream.iv stream.used (take done old) (take count rest)
-    ∙ ap (λ (n : ℕ). part ++ at (stream.used + n) (take count rest)) taken in
-    (λ i. front i ++ (next ∙ ap (front_text (further stream done) count) back) i)
-    ∙ sym (append_assoc part more (drop count rest))
-    ∙ (λ i. sym whole i ++ drop-drop count done old i)
-
--- a text of which no bytes are done
-pub front_none : (stream : ChaChaState) (old : List ℕ) → old ≡ front_text stream 0 old
-unfolding text_from
-front_none stream old = refl
-
--- a text of which all bytes are done
-pub front_all : (stream : ChaChaState) (old text : List ℕ) (done : ℕ) → length old ≤ done
-    → text ≡ front_text stream done old → text ≡ text_from stream.key stream.iv stream.used old
-front_all stream old text done all was =
-    was ∙ (λ i. text_from stream.key stream.iv stream.used (take_all done old all i) ++ drop_all done old all i)
-    ∙ append-nil (text_from stream.key stream.iv stream.used old)
+-- the text of the front, written over it, and the text of the rest
+pub front_more : (key iv first text new : List ℕ) (used used' done count : ℕ) → done ≤ length text → count ≤ length text - done → used' ≡ used + count
+    → new ≡ text_from key iv used (take count (drop done text)) ++ drop count (drop done text)
+    → first ≡ take done text ++ text_from key iv used (drop done text)
+    → first ≡ take (done + count) (take done text ++ new) ++ text_from key iv used' (drop (done + count) (take done text ++ new))
+front_more key iv first text new used used' done count hd hc next is before =
+    let rest = drop done text in
+    let part = text_from key iv used (take count rest) in
+    let size : length part ≡ count = length-text_from key iv used (take count rest) ∙ length-take-le count rest (omega (arith, length-drop done text)) in
+    let front : length (take done text ++ part) ≡ done + count = length-append (take done text) part ∙ (λ i. length-take-le done text hd i + size i) in
+    let split : take done text ++ new ≡ (take done text ++ part) ++ drop count rest =
+    ap (λ (t : List ℕ). take done text ++ t) is ∙ sym (append_assoc (take done text) part (drop count rest)) in
+    let whole : text_from key iv used rest ≡ part ++ text_from key iv used' (drop count rest) =
+    ap (text_from key iv used) (sym (take-append-drop count rest))
+    ∙ text_from-append key iv used (take count rest) (drop count rest)
+    ∙ ap (λ (p : ℕ). part ++ text_from key iv p (drop count rest))
+    (ap (λ (n : ℕ). used + n) (length-take-le count rest (omega (arith, length-drop done text))) ∙ sym next) in
+    rw (split, take_at (take done text ++ part) (drop count rest) (done + count) front, drop_at (take done text ++ part) (drop count rest) (done + count) front)
+    (before ∙ ap (λ (t : List ℕ). take done text ++ t) whole ∙ sym (append_assoc (take done text) part (text_from key iv used' (drop count rest))))
 
 -- the first bytes of a message in two parts
 take_past : (n : ℕ) (xs ys : List ℕ) → take n (xs ++ ys) ≡ take n xs ++ take (n - length xs) ys
@@ -153,6 +139,11 @@ text_from-rest key iv bytes rest used left count is =
     ∙ text_from-append key iv used (take left bytes) (take (left - length bytes) rest)
     ∙ ap (λ (p : ℕ). text_from key iv used (take left bytes) ++ text_from key iv (used + p) (take (left - length bytes) rest)) size
     ∙ ap (λ (p : ℕ). text_from key iv used (take left bytes) ++ text_from key iv (used + count) (take p rest)) over
+
+-- no bytes, no text
+pub text_from-nil : (key iv : List ℕ) (place : ℕ) → text_from key iv place [] ≡ []
+unfolding text_from
+text_from-nil key iv place = refl
 
 -- the end of a slice written over
 pub put_end : (done : ℕ) (text new : List ℕ) → done ≤ length text → put_mid done (length text - done) text new ≡ take done text ++ new

@@ -1,6 +1,6 @@
 -- The key stream of a key of 32 bytes and an IV of 16, and the text of a message (RFC 8439, 2.4). The IV is the 32-bit
 -- counter of the first block, little-endian, and the 96-bit nonce, as in EVP_chacha20(3).
-use Rattle.std.specs.Prelude.{ℕ, ◌+◌, ◌-◌, ◌*◌, ◌/◌, ◌%◌, ◌^◌, ◌≡◌, ◌<◌, ◌≤◌, Bool, false, List, [], ◌∷◌, ◌++◌, map, take, drop, slice_index, bit_xor}
+use Rattle.std.specs.Prelude.{ℕ, ◌+◌, ◌-◌, ◌*◌, ◌/◌, ◌%◌, ◌^◌, ◌≡◌, ◌<◌, ◌≤◌, Bool, false, List, [], ◌∷◌, map, take, slice_index, bit_xor}
 use Rattle.std.specs.List.{range_with_len}
 use Rattle.rand_core.specs.Steps.{u32_at}
 unfoldable pub use Rattle.ossl_blocks.specs.Xor.{xored}
@@ -49,11 +49,3 @@ stream_of key iv = record { key = key; iv = iv; used = 0; is_over = false }
 -- the text that a stream gives of these bytes: as many of them as the key stream has left, xored with it
 abbrev pub text_of : ChaChaState → List ℕ → List ℕ
 text_of state bytes = text_from state.key state.iv state.used (take (stream_len state.iv - state.used) bytes)
-
--- the first count bytes of a text xored with a stream, and the others as they are
-abbrev pub front_text : ChaChaState → ℕ → List ℕ → List ℕ
-front_text state count text = text_from state.key state.iv state.used (take count text) ++ drop count text
-
--- the stream with so many bytes more used
-abbrev pub further : ChaChaState → ℕ → ChaChaState
-further state count = record state { used = state.used + count }

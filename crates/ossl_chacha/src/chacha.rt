@@ -1,8 +1,5 @@
-ghost use Rattle.std.specs.Prelude.{◌≡◌, ℕ, ◌+◌, ◌%◌, ◌<◌, ◌≤◌, List, [], ◌++◌, OnOk, OnErr, length};
-ghost use Rattle.rand_core.specs.Steps.{fill_via_u32};
-ghost use Rattle.rand_chacha.specs.ChaCha.{next_word};
-ghost use Rattle.ossl_chacha.specs.KeyStream.{blocks_of, front_text, further, stream_len, stream_of, text_from, text_of};
-ghost use Rattle.ossl_chacha.specs.KeyStream.{xored};
+ghost use Rattle.std.specs.Prelude.{◌≡◌, ℕ, ◌+◌, ◌%◌, ◌<◌, ◌≤◌, List, [], ◌++◌, OnOk, OnErr, length, max, take, drop};
+ghost use Rattle.ossl_chacha.specs.KeyStream.{blocks_of, stream_len, stream_of, text_from, text_of, xored};
 
 use crate::generator::generator_of;
 use rand_chacha::ChaCha20Rng;
@@ -57,13 +54,14 @@ fn xor(text: &mut [u8], stream: &[u8])
     }
 }
 
-// Draws the generator's next bytes. The compiler draws its rounds into the loop over the words at one place alone, so
-// all is drawn here.
-#[inline(never)]
-fn draw(generator: &mut ChaCha20Rng, room: &mut [u8])
-    ensures { (room.new, generator.new) ≡ fill_via_u32 (next_word 10) (length room.old) generator.old }
+// How many bytes are drawn at once for a text of so many: four blocks, or one where the text has less than these.
+fn drawn_len(text: usize) -> usize
+    ensures whole { result % 64 ≡ 0 }
+    ensures some { 64 ≤ result }
+    ensures within { result ≤ 256 }
+    ensures fits { result ≤ max 64 text }
 {
-    fill_bytes_via_u32(generator, room);
+    if text >= RUN { RUN } else { BLOCK }
 }
 
 impl ChaCha {
@@ -106,8 +104,8 @@ impl ChaCha {
         requires fits { self.old.used + length text.old ≤ stream_len self.old.iv }
         ensures some { 0 < result }
         ensures count { result ≤ length text.old }
-        ensures text { text.new ≡ front_text self.old result text.old }
-        ensures used { self.new ≡ further self.old result }
+        ensures text { text.new ≡ text_from self.old.key self.old.iv self.old.used (take result text.old) ++ drop result text.old }
+        ensures used { self.new ≡ record self.old { used = self.old.used + result } }
     {
         let at = (self.used % 64) as usize;
         let count = text.len().min(BLOCK - at);
@@ -116,70 +114,41 @@ impl ChaCha {
         count
     }
 
-    // Draws the next block, which is held, and xors it into the text's first bytes. Says how many these are.
-    fn crypt_block(&mut self, text: &mut [u8]) -> usize
+    // Xors the next blocks into the text's first bytes, and says how many these are. Four blocks are drawn at once,
+    // into the room apart from the text, so that a processor need not wait for single words that it has just stored. The
+    // last is held.
+    fn crypt_drawn(&mut self, text: &mut [u8], room: &mut [u8; 256]) -> usize
         requires at_block { self.old.used % 64 ≡ 0 }
         requires some { 0 < length text.old }
         requires fits { self.old.used + length text.old ≤ stream_len self.old.iv }
         ensures some { 0 < result }
         ensures count { result ≤ length text.old }
-        ensures text { text.new ≡ front_text self.old result text.old }
-        ensures used { self.new ≡ further self.old result }
+        ensures text { text.new ≡ text_from self.old.key self.old.iv self.old.used (take result text.old) ++ drop result text.old }
+        ensures used { self.new ≡ record self.old { used = self.old.used + result } }
     {
-        draw(&mut self.generator, &mut self.held);
-        let count = text.len().min(BLOCK);
-        xor(&mut text[..count], &self.held);
+        let size = drawn_len(text.len());
+        let drawn = &mut room[..size];
+        fill_bytes_via_u32(&mut self.generator, drawn);
+        let count = text.len().min(size);
+        xor(&mut text[..count], drawn);
+        self.held.copy_from_slice(&drawn[size - BLOCK..]);
         self.used += count as u128;
         count
     }
 
-    // Draws the next four blocks and xors them into the text's first bytes. They are drawn into the room apart from the
-    // text, so that a processor need not wait for single words that it has just stored.
-    fn crypt_run(&mut self, text: &mut [u8], room: &mut [u8; 256])
-        requires at_block { self.old.used % 64 ≡ 0 }
-        requires run { 256 ≤ length text.old }
-        requires fits { self.old.used + 256 ≤ stream_len self.old.iv }
-        ensures text { text.new ≡ front_text self.old 256 text.old }
-        ensures used { self.new ≡ further self.old 256 }
-    {
-        draw(&mut self.generator, room);
-        xor(&mut text[..RUN], room);
-        self.used += RUN as u128;
-    }
-
-    // The same for as many runs of four blocks as the text has. Says how many bytes these are.
-    fn crypt_runs(&mut self, text: &mut [u8]) -> usize
-        requires at_block { self.old.used % 64 ≡ 0 }
-        requires some { 256 ≤ length text.old }
-        requires fits { self.old.used + length text.old ≤ stream_len self.old.iv }
-        ensures some { 0 < result }
-        ensures count { result ≤ length text.old }
-        ensures text { text.new ≡ front_text self.old result text.old }
-        ensures used { self.new ≡ further self.old result }
-    {
-        let mut room = [0; RUN];
-        let runs = text.len() / RUN;
-        for i in 0..runs {
-            self.crypt_run(&mut text[RUN * i..], &mut room);
-        }
-        RUN * runs
-    }
-
     // Xors some of the key stream's next bytes into the text's first bytes, and says how many these are.
-    fn crypt_front(&mut self, text: &mut [u8]) -> usize
+    fn crypt_front(&mut self, text: &mut [u8], room: &mut [u8; 256]) -> usize
         requires some { 0 < length text.old }
         requires fits { self.old.used + length text.old ≤ stream_len self.old.iv }
         ensures some { 0 < result }
         ensures count { result ≤ length text.old }
-        ensures text { text.new ≡ front_text self.old result text.old }
-        ensures used { self.new ≡ further self.old result }
+        ensures text { text.new ≡ text_from self.old.key self.old.iv self.old.used (take result text.old) ++ drop result text.old }
+        ensures used { self.new ≡ record self.old { used = self.old.used + result } }
     {
-        if self.used % 64 != 0 {
-            self.crypt_held(text)
-        } else if text.len() < RUN {
-            self.crypt_block(text)
+        if self.used % 64 == 0 {
+            self.crypt_drawn(text, room)
         } else {
-            self.crypt_runs(text)
+            self.crypt_held(text)
         }
     }
 
@@ -187,11 +156,12 @@ impl ChaCha {
     fn crypt(&mut self, text: &mut [u8])
         requires { self.old.used + length text.old ≤ stream_len self.old.iv }
         ensures text { text.new ≡ text_from self.old.key self.old.iv self.old.used text.old }
-        ensures used { self.new ≡ further self.old (length text.old) }
+        ensures used { self.new ≡ record self.old { used = self.old.used + length text.old } }
     {
+        let mut room = [0; RUN];
         let mut done = 0;
         while done < text.len() {
-            done += self.crypt_front(&mut text[done..]);
+            done += self.crypt_front(&mut text[done..], &mut room);
         }
     }
 
@@ -199,8 +169,7 @@ impl ChaCha {
     /// memory is refused, the stream and `out` are as they were.
     pub fn feed(&mut self, bytes: &[u8], out: &mut Vec<u8>) -> Result<(), AllocError>
         ensures appended { OnOk result (out.new.items ≡ out.old.items ++ text_of self.old bytes.now) }
-        ensures goes_on { OnOk result ((rest : List ℕ) → text_of self.old (bytes.now ++ rest) ≡
-            text_of self.old bytes.now ++ text_of self.new rest) }
+        ensures goes_on { OnOk result ((rest : List ℕ) → text_of self.old (bytes.now ++ rest) ≡ text_of self.old bytes.now ++ text_of self.new rest) }
         ensures end { OnOk result ((rest : List ℕ) → end_of self.old (bytes.now ++ rest) ≡ end_of self.new rest) }
         ensures unchanged { OnErr result ((self.new ≡ self.old) × (out.new.items ≡ out.old.items)) }
     {
