@@ -1,6 +1,6 @@
 //! The salted file of openssl-enc(1): AES in CBC mode with padding, under a key that PBKDF2 makes of a password.
-//! Promise: the file or its text is written in constant memory, each refusal is exact, and a text comes back (`enc`).
-//! openssl-enc(1), RFC 8018, SP 800-38A. Work grows with the rounds and with the bytes of the input.
+//! Promise: what is written is the file or its text, each refusal is exact, and a text comes back (`enc`).
+//! openssl-enc(1), RFC 8018, SP 800-38A. Work grows with the rounds and the input's bytes, memory with nothing.
 #![tactic(auto)]
 
 mod call;
