@@ -1,0 +1,4 @@
+-- Lemmas that several proofs share.
+pub mod OrderLaws
+pub mod ResultsLaws
+pub mod EndedLaws
