@@ -1,0 +1,7 @@
+mod CauseLaws
+mod ContentLaws
+mod SettledLaws
+mod DueLaws
+mod StepLaws
+mod JobLaws
+mod TextLaws
