@@ -32,9 +32,8 @@ change_text word facts others u = if is_among others u then [] else instance_tex
 abbrev pub changes_text : List ℕ → List Facts → List Up → List Up → List ℕ
 changes_text word facts these others = flat_map (change_text word facts others) these
 
--- how an entry of the history is shown: its caller's number in the batch by that in the history, and whether
--- it is marked as a
--- hit or a miss of the query cache, by its own number
+-- how an entry of the history is shown: its caller's number in the batch by that in the history, and whether it is
+-- marked as a hit or a miss of the query cache, by its own number
 pub record Showing : Type 0 where
   pub caller : ℕ → ℕ
   pub mark : ℕ → Option Bool
@@ -43,8 +42,8 @@ pub record Showing : Type 0 where
 abbrev pub plainly : Showing
 plainly = record { caller = λ number. number; mark = λ number. None }
 
--- the caller of the batch that stands under a number in the history: its place in this list, counted from 1; 0
--- for the program
+-- the caller of the batch that stands under a number in the history: its place in this list, counted from 1; 0 for
+-- the program
 abbrev pub batch_caller : List ℕ → ℕ → ℕ
 batch_caller callers number = unwrap_or (option_map (λ i. i + 1) (position (λ other. nat_eq other number) callers)) 0
 

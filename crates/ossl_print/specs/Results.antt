@@ -39,9 +39,8 @@ abbrev pub IsEachTold : List Line → ℕ → List LineResult → Type 0
 IsEachTold lines caller results =
     map (λ result. result.line) results ≡ map (λ line. line.number) (lines_of caller lines)
 
--- every line has a result in this list of callers: the callers are counted from 1, no two lines have one
--- number, and each
--- caller has one result for each of its lines, in order
+-- every line has a result in this list of callers: the callers are counted from 1, no two lines have one number, and
+-- each caller has one result for each of its lines, in order
 pub record AreTold (lines : List Line) (results : List (List LineResult)) : Type 0 where
   pub callers : IsTrue (list_all (λ line. nat_lt 0 line.caller && nat_le line.caller (length results)) lines)
   pub numbers : IsTrue (is_distinct (map (λ line. line.number) lines))

@@ -16,14 +16,12 @@ use std::alloc::{AllocError, Global};
 /// No memory holds so many entries.
 const MOST_ENTRIES: usize = 0x4000_0000_0000_0000;
 
-/// Appends the printed order of a history that is legal over these boxes and so many library contexts: how
-/// many entries there are,
-/// and a line for each with what it started and stopped.
+/// Appends the printed order of a history that is legal over these boxes and so many library contexts: how many
+/// entries there are, and a line for each with what it started and stopped.
 ///
 /// `callers[i]` is the number under which caller i + 1 of the batch stands in the history; any other number is
-/// shown as 0. Where
-/// `marks` are given, the fetches that found a method are shown as hits and misses. Where memory is refused,
-/// `out` is as it was.
+/// shown as 0. Where `marks` are given, the fetches that found a method are shown as hits and misses. Where memory
+/// is refused, `out` is as it was.
 pub fn put_order<P: Provider>(
     alloc: Global,
     out: &mut Vec<u8>,
@@ -167,9 +165,8 @@ fn write_instance<P: Provider>(
     write_decimal(out, up.number)
 }
 
-/// The caller of the batch that stands under a number in the history, where these are the numbers of callers
-/// 1, 2 and so on; 0 where
-/// none does, as for the program itself.
+/// The caller of the batch that stands under a number in the history, where these are the numbers of callers 1, 2
+/// and so on; 0 where none does, as for the program itself.
 pub fn batch_caller(callers: &[u64], number: u64) -> u64
     ensures caller { result ≡ batch_caller callers.now number }
 {

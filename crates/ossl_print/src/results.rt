@@ -9,9 +9,8 @@ use ossl_commands::Line;
 use ossl_script::LineResult;
 use std::alloc::{AllocError, Global};
 
-/// Appends the number of lines, and the result of each, in the order of the text. `results[i]` are the results
-/// of caller i + 1, one
-/// for each of its lines, in order. Where memory is refused, `out` is as it was.
+/// Appends the number of lines, and the result of each, in the order of the text. `results[i]` are the results of
+/// caller i + 1, one for each of its lines, in order. Where memory is refused, `out` is as it was.
 pub fn put_results(
     alloc: Global,
     out: &mut Vec<u8>,
