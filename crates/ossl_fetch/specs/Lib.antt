@@ -1,0 +1,3 @@
+-- What a fetch finds by the registry's parts.
+pub mod Offered
+pub mod Recent
