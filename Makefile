@@ -3,7 +3,7 @@
 # test: the gate: every proof, must-fail edit, test and program, and then the cases
 # check CRATE=NAME: one crate, while you write it
 PROGRAMS = ossl_replay ossl_enc ossl_speed
-INSTALLED = ossl_replay ossl_enc
+INSTALLED = ossl_enc
 PREFIX = /usr/local
 .PHONY: demo build test check install uninstall
 

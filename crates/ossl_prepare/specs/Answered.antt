@@ -1,5 +1,5 @@
--- The same checks where it is left open what files answer: a file may fail where the count of faults rises, and files that do not
--- tell their contents may answer anything.
+-- The same checks where it is left open what files answer: a file may fail where the count of faults rises, and files
+-- that do not tell their contents may answer anything.
 use Rattle.std.specs.Prelude.{ℕ, ◌≡◌, ◌⊎◌, Option, Some, None, Result, Ok, Err, List, [], ◌∷◌, ◌++◌, length, map}
 use Rattle.ossl_base.specs.declared.files.FileRefusal.{FileRefusal}
 use Rattle.ossl_base.specs.declared.files.FileRefusal.TheVariants.{Failed}
@@ -32,7 +32,11 @@ pub record Told : Type 0 where
   pub before : ℕ
   pub after : ℕ
 
--- a file of this name may be answered so within a limit; it is not read only where the count rose, or the files are told and lack it
+abbrev pub telling : Option Entries → ℕ → ℕ → Told
+telling entries before after = record { entries = entries; before = before; after = after }
+
+-- a file of this name may be answered so within a limit; it is not read only where the count rose, or the files are
+-- told and lack it
 pub record IsGiven (files : Told) (name : List ℕ) (limit : ℕ) (answer : Result (List ℕ) FileRefusal) : Type 0 where
   pub may : MayAnswer files.entries name limit answer
   pub failed : answer ≡ Err Failed → Rose files.before files.after ⊎ LacksName files.entries name
@@ -40,15 +44,17 @@ pub record IsGiven (files : Told) (name : List ℕ) (limit : ℕ) (answer : Resu
 -- a file of this name may have this content within a limit, or this error line
 abbrev pub IsContent : Told → List ℕ → limit.Limit → Result (List ℕ) ErrorLine → Type 0
 IsContent files name most result =
-    (answer : Result (List ℕ) FileRefusal) × IsGiven files name (most_of most) answer × (result ≡ content_or most answer)
+    (answer : Result (List ℕ) FileRefusal) × IsGiven files name (most_of most) answer
+    × (result ≡ content_or most answer)
 
--- a configuration of this text may be answered so; where the files are told it is the answer by what they hold, but for a file that
--- was not read
+-- a configuration of this text may be answered so; where the files are told it is the answer by what they hold, but
+-- for a file that was not read
 pub record IsSettled (files : Told) (text : List ℕ) (answer : Result SettingsView ConfRefused) : Type 0 where
   pub may : IsAnswer files.entries text answer
   pub exact : (entries : Entries) → files.entries ≡ Some entries
       → (answer ≡ settings_of (told entries) text) ⊎ IsFaulty files.before files.after answer
-  pub failed : (name : List ℕ) → answer ≡ Err (File name Failed) → Rose files.before files.after ⊎ LacksName files.entries name
+  pub failed : (name : List ℕ) → answer ≡ Err (File name Failed)
+      → Rose files.before files.after ⊎ LacksName files.entries name
 
 -- the answer is that error, or what follows where the step before ends in none
 abbrev pub Then : {A B : Type 0} → Result A ErrorLine → (A → Type 0) → Result B ErrorLine → Type 0
@@ -67,12 +73,15 @@ abbrev pub AreSettings : Told → Option (List ℕ) → Result SettingsView Erro
 AreSettings files None result = result ≡ Ok no_settings
 AreSettings files (Some name) result =
     (read : Result (List ℕ) ErrorLine) × IsContent files name limits.Configuration read
-    × Then read (λ text. (said : Result SettingsView ConfRefused) × IsSettled files text said × (result ≡ settings_or said)) result
+    × Then read (λ text. (said : Result SettingsView ConfRefused) × IsSettled files text said
+    × (result ≡ settings_or said)) result
 
 -- what comes behind the files
-abbrev pub IsDueBehind : Told → Option (List ℕ) → (SettingsView → PreparedView) → Result PreparedView ErrorLine → Type 0
+abbrev pub IsDueBehind : Told → Option (List ℕ) → (SettingsView → PreparedView)
+    → Result PreparedView ErrorLine → Type 0
 IsDueBehind files conf ready result =
-    (settings : Result SettingsView ErrorLine) × AreSettings files conf settings × (result ≡ settings >>= λ set. Ok (ready set))
+    (settings : Result SettingsView ErrorLine) × AreSettings files conf settings
+    × (result ≡ settings >>= λ set. Ok (ready set))
 
 -- all checks in their order
 abbrev pub IsDue : Told → Option (List ℕ) → List ℕ → Result PreparedView ErrorLine → Type 0
@@ -87,7 +96,8 @@ IsDue files conf text result =
 
 -- where the files are told it is what they hold, unless a file that is there was not read
 abbrev pub DueIsTold : Type 0
-DueIsTold = (files : Told) (entries : Entries) (conf : Option (List ℕ)) (text : List ℕ) (result : Result PreparedView ErrorLine)
+DueIsTold = (files : Told) (entries : Entries) (conf : Option (List ℕ)) (text : List ℕ)
+    (result : Result PreparedView ErrorLine)
     → files.entries ≡ Some entries
     → IsDue files conf text result
     → (result ≡ due_batch (told entries) conf text) ⊎ (result ≡ Err Read) × Rose files.before files.after

@@ -1,6 +1,6 @@
--- What the text of a batch and the name of a configuration come to: a batch that is ready to be run, or the first error line in the
--- order of the checks: the text, the limits that it shows alone, its files in the order of their first naming, the limits with
--- their lengths, and the configuration.
+-- What the text of a batch and the name of a configuration come to: a batch that is ready to be run, or the first
+-- error line in the order of the checks: the text, the limits that it shows alone, its files in the order of their
+-- first naming, the limits with their lengths, and the configuration.
 use Rattle.std.specs.Prelude.{ℕ, Option, Some, None, Result, Ok, Err, List, [], ◌∷◌, ◌++◌, length, map}
 use Rattle.ossl_base.specs.declared.files.FileRefusal.{FileRefusal}
 use Rattle.ossl_base.specs.declared.files.FileRefusal.TheVariants as refusals
@@ -53,7 +53,8 @@ content_or most (Err refusal) = Err Read
 abbrev pub contents_from : Answering → List (List ℕ) → List (List ℕ) → Result (List (List ℕ)) ErrorLine
 contents_from files done [] = Ok done
 contents_from files done (name ∷ names) =
-    content_or limits.File (files name (most_of limits.File)) >>= λ content. contents_from files (done ++ content ∷ []) names
+    content_or limits.File (files name (most_of limits.File)) >>= λ content.
+    contents_from files (done ++ content ∷ []) names
 
 abbrev pub settings_or : Result SettingsView ConfRefused → Result SettingsView ErrorLine
 settings_or (Ok settings) = Ok settings
@@ -67,7 +68,8 @@ no_settings = record { activations = []; default_query = None }
 abbrev pub settings_by : Answering → Option (List ℕ) → Result SettingsView ErrorLine
 settings_by files None = Ok no_settings
 settings_by files (Some name) =
-    content_or limits.Configuration (files name (most_of limits.Configuration)) >>= λ text. settings_or (settings_of files text)
+    content_or limits.Configuration (files name (most_of limits.Configuration)) >>= λ text.
+    settings_or (settings_of files text)
 
 -- all checks in their order, where files answer so
 abbrev pub due_batch : Answering → Option (List ℕ) → List ℕ → Result PreparedView ErrorLine

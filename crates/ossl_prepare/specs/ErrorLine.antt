@@ -27,12 +27,13 @@ abbrev pub error_text : ErrorLine → List ℕ
 error_text Usage = codes "error usage\n"
 error_text Read = codes "error read\n"
 error_text (Configuration refusal) = refusal_text refusal
-error_text (Batch number kind) = codes "error batch line " ++ decimal number ++ codes " " ++ kind_word kind ++ codes "\n"
+error_text (Batch number kind) =
+    codes "error batch line " ++ decimal number ++ codes " " ++ kind_word kind ++ codes "\n"
 error_text (Limit limit) = codes "error limit " ++ limit_word limit ++ codes "\n"
 error_text (Provider name) = codes "error provider " ++ shown name ++ codes "\n"
 
--- why a configuration is refused, as an error line says it: an included file that could not be read, or that passes the limit of
--- bytes, is one that every file may be refused for
+-- why a configuration is refused, as an error line says it: an included file that could not be read, or that passes
+-- the limit of bytes, is one that every file may be refused for
 abbrev pub configuration_error : ConfRefused → ErrorLine
 configuration_error (File name files.Failed) = Read
 configuration_error (File name files.TooLong) = Limit limits.Configuration

@@ -1,5 +1,6 @@
--- What the words of a top call come to, with what it reads: a batch that is ready to be run, or the first error in the order of the
--- checks: the words, the reading of the batch and its limit of bytes, and then those of the batch, its files and its configuration.
+-- What the words of a top call come to, with what it reads: a batch that is ready to be run, or the first error in
+-- the order of the checks: the words, the reading of the batch and its limit of bytes, and then those of the batch,
+-- its files and its configuration.
 use Rattle.std.specs.Prelude.{ℕ, ◌≡◌, ◌⊎◌, ◌<◌, ◌≤◌, nat_lt, Bool, true, false, IfSome, if◌then◌else◌, Option, Some, None, Result, Ok, Err, List, [], length}
 use Rattle.ossl_base.specs.Causes.{Rose}
 use Rattle.ossl_base.specs.Files.{Entries}
@@ -36,12 +37,14 @@ task_with job prepared = record { job = job; prepared = prepared }
 
 -- the text of the batch: that which is read, within its limit, or that which is generated
 abbrev pub text_of : Job → List ℕ → Result (List ℕ) ErrorLine
-text_of (Run conf order hits) bytes = if nat_lt (most_of limits.Bytes) (length bytes) then Err (Limit limits.Bytes) else Ok bytes
+text_of (Run conf order hits) bytes =
+    if nat_lt (most_of limits.Bytes) (length bytes) then Err (Limit limits.Bytes) else Ok bytes
 text_of (Gen lines seed callers) bytes = Ok (generated lines seed callers)
 
 abbrev pub due_job : Answering → List ℕ → Option Job → Result Task ErrorLine
 due_job files bytes None = Err Usage
-due_job files bytes (Some job) = text_of job bytes >>= λ text. due_batch files (conf_of job) text >>= λ prepared. Ok (task_with job prepared)
+due_job files bytes (Some job) =
+    text_of job bytes >>= λ text. due_batch files (conf_of job) text >>= λ prepared. Ok (task_with job prepared)
 
 -- by the words, the bytes that the source has left, and what files answer
 abbrev pub due_error : Bool → List (List ℕ) → List ℕ → Answering → Result Task ErrorLine
@@ -49,8 +52,8 @@ due_error threads words bytes files = due_job files bytes (job_of threads words)
 
 -- 2. Where it is left open what the source and the files give.
 
--- what a top call has before it: whether its program has threads, the words, the bytes that its source has left, where it tells them, with its count of faults
--- before and after, and its files
+-- what a top call has before it: whether its program has threads, the words, the bytes that its source has left,
+-- where it tells them, with its count of faults before and after, and its files
 pub record Inputs : Type 0 where
   pub threads : Bool
   pub words : List (List ℕ)
@@ -59,11 +62,14 @@ pub record Inputs : Type 0 where
   pub after : ℕ
   pub files : Told
 
--- the text of the batch may be this, or end in this error: the source failed, which it counted, or had more bytes than the limit
+-- the text of the batch may be this, or end in this error: the source failed, which it counted, or had more bytes
+-- than the limit
 abbrev pub IsText : Option (List ℕ) → ℕ → ℕ → Job → Result (List ℕ) ErrorLine → Type 0
-IsText left before after (Run conf order hits) (Ok text) = IfSome left (λ bytes. bytes ≡ text) × (length text ≤ most_of limits.Bytes)
+IsText left before after (Run conf order hits) (Ok text) = IfSome left (λ bytes. bytes ≡ text)
+    × (length text ≤ most_of limits.Bytes)
 IsText left before after (Run conf order hits) (Err Read) = Rose before after
-IsText left before after (Run conf order hits) (Err (Limit limits.Bytes)) = IfSome left (λ bytes. most_of limits.Bytes < length bytes)
+IsText left before after (Run conf order hits) (Err (Limit limits.Bytes)) =
+    IfSome left (λ bytes. most_of limits.Bytes < length bytes)
 IsText left before after (Run conf order hits) (Err error) = ⊥
 IsText left before after (Gen lines seed callers) result = result ≡ Ok (generated lines seed callers)
 

@@ -2,7 +2,7 @@
 
 ghost use Rattle.std.specs.Prelude.{◌≡◌, ◌≤◌, ℕ, [], length, map, IfOk};
 ghost use Rattle.ossl_conf.specs.Answers.{mapped};
-ghost use Rattle.ossl_prepare.specs.Answered.{AreContents, ButForMemory, IsContent};
+ghost use Rattle.ossl_prepare.specs.Answered.{AreContents, ButForMemory, IsContent, telling};
 
 use crate::error_line::ErrorLine;
 use crate::refused::Refused;
@@ -18,7 +18,7 @@ pub fn read_content<F: Files>(
     limit: Limit,
 ) -> Result<Bytes, Refused>
     ensures content { (before after : ℕ) → before ≤ F.faults files.old → F.faults files.new ≤ after →
-        ButForMemory result (IsContent (record { entries = F.entries files.old; before = before; after = after }) name.now limit) }
+        ButForMemory result (IsContent (telling (F.entries files.old) before after) name.now limit) }
     ensures kept { F.entries files.new ≡ F.entries files.old }
     ensures later { F.faults files.old ≤ F.faults files.new }
 {
@@ -37,7 +37,8 @@ pub fn read_contents<F: Files>(
     names: &[Text],
 ) -> Result<Vec<Bytes>, Refused>
     ensures contents { (before after : ℕ) → before ≤ F.faults files.old → F.faults files.new ≤ after →
-        ButForMemory (mapped (λ contents. contents.items) result) (AreContents (record { entries = F.entries files.old; before = before; after = after }) [] names.now) }
+        ButForMemory (mapped (λ contents. contents.items) result) (AreContents (telling
+        (F.entries files.old) before after) [] names.now) }
     ensures each { IfOk result (λ contents. length contents.items ≡ length names.now) }
     ensures kept { F.entries files.new ≡ F.entries files.old }
     ensures later { F.faults files.old ≤ F.faults files.new }

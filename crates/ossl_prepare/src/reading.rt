@@ -4,7 +4,8 @@ ghost use Rattle.std.specs.Prelude.{◌≡◌, ◌≤◌, Some, false};
 ghost use Rattle.std.specs.Option.{option_copied};
 ghost use Rattle.ossl_conf.specs.Answers.{mapped};
 ghost use Rattle.ossl_prepare.specs.Answered.{ButForMemory};
-ghost use Rattle.ossl_prepare.specs.Task.{DueRunIsTold, HasCallers, IsDueRun, IsText, conf_of, job_or, order_of, reads_source};
+ghost use Rattle.ossl_prepare.specs.Task.{DueRunIsTold, HasCallers, IsDueRun, IsText};
+ghost use Rattle.ossl_prepare.specs.Task.{conf_of, job_or, order_of, reads_source};
 ghost use Rattle.ossl_words.specs.Commands.{bytes_of, job_of};
 
 use crate::error_line::ErrorLine;
@@ -15,7 +16,6 @@ use ossl_base::whole::{ReadRefusal, read_all};
 use ossl_base::{Files, Text};
 use ossl_commands::Limit;
 use ossl_generate::generate;
-
 use ossl_words::{Job, WordsRefused, read_words};
 use std::alloc::Global;
 
@@ -80,8 +80,8 @@ fn read_text<S: Source>(alloc: Global, source: &mut S, job: &Job) -> Result<Vec<
     }
 }
 
-/// Reads all that the run of the words' job needs, or ends in the first error in the order of the checks. A generated batch reads
-/// neither source nor files. `threads` tells whether the program has threads, and takes no order then.
+/// Reads all that the run of the words' job needs, or ends in the first error in the order of the checks. A generated
+/// batch reads neither source nor files. `threads` tells whether the program has threads, and takes no order then.
 #[tactic(auto, using(crate::proofs::TextLaws::due_run_is_told))]
 pub fn read_task<S: Source, F: Files>(
     alloc: Global,
@@ -91,13 +91,13 @@ pub fn read_task<S: Source, F: Files>(
     files: &mut F,
 ) -> Result<Task, Refused>
     ensures due { ButForMemory result (IsDueRun (record {
-        threads = threads;
-        words = bytes_of words.now;
-        left = S.left source.old;
-        before = S.faults source.old;
-        after = S.faults source.new;
-        files = record { entries = F.entries files.old; before = F.faults files.old; after = F.faults files.new };
-      })) }
+      threads = threads;
+      words = bytes_of words.now;
+      left = S.left source.old;
+      before = S.faults source.old;
+      after = S.faults source.new;
+      files = record { entries = F.entries files.old; before = F.faults files.old; after = F.faults files.new };
+    })) }
     ensures unread { reads_source (job_of threads (bytes_of words.now)) ≡ false → source.new ≡ source.old }
     ensures kept { F.entries files.new ≡ F.entries files.old }
     ensures told { DueRunIsTold }

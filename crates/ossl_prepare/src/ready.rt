@@ -3,7 +3,7 @@
 ghost use Rattle.std.specs.Prelude.{◌≡◌, ◌≤◌, ℕ, [], length, map};
 ghost use Rattle.std.specs.Option.{option_copied};
 ghost use Rattle.ossl_conf.specs.Answers.{mapped};
-ghost use Rattle.ossl_prepare.specs.Answered.{ButForMemory, DueIsTold, IsDue, ReadIsCounted};
+ghost use Rattle.ossl_prepare.specs.Answered.{ButForMemory, DueIsTold, IsDue, ReadIsCounted, telling};
 ghost use Rattle.ossl_prepare.specs.Due.{fitting, script_of};
 
 use crate::contents::{lengths_of, read_contents};
@@ -82,8 +82,8 @@ fn check_limits(script: &Script, lengths: &[u64]) -> Result<(), Refused>
     }
 }
 
-/// All that the run of a batch of this text needs, with the configuration of this name, where one is named; or the first error in
-/// the order of the checks. A file is asked for once, and only where no check before refuses.
+/// All that the run of a batch of this text needs, with the configuration of this name, where one is named; or the
+/// first error in the order of the checks. A file is asked for once, and only where no check before refuses.
 ///
 /// Where the files tell what they hold, and none that is there fails, the answer follows from that and the text alone.
 #[tactic(auto, using(crate::proofs::DueLaws::due_is_told, crate::proofs::DueLaws::read_is_counted))]
@@ -94,7 +94,7 @@ pub fn prepare<F: Files>(
     files: &mut F,
 ) -> Result<Prepared, Refused>
     ensures due { (before after : ℕ) → before ≤ F.faults files.old → F.faults files.new ≤ after →
-        ButForMemory result (IsDue (record { entries = F.entries files.old; before = before; after = after }) (option_copied conf.entry) text.now) }
+        ButForMemory result (IsDue (telling (F.entries files.old) before after) (option_copied conf.entry) text.now) }
     ensures kept { F.entries files.new ≡ F.entries files.old }
     ensures later { F.faults files.old ≤ F.faults files.new }
     ensures told { DueIsTold }

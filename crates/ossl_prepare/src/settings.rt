@@ -2,7 +2,7 @@
 
 ghost use Rattle.std.specs.Prelude.{◌≡◌, ◌≤◌, ℕ};
 ghost use Rattle.std.specs.Option.{option_copied};
-ghost use Rattle.ossl_prepare.specs.Answered.{AreSettings, ButForMemory};
+ghost use Rattle.ossl_prepare.specs.Answered.{AreSettings, ButForMemory, telling};
 ghost use Rattle.ossl_prepare.specs.ErrorLine.{configuration_refused};
 
 use crate::contents::read_content;
@@ -42,7 +42,7 @@ pub fn read_settings<F: Files>(
     conf: Option<&Text>,
 ) -> Result<Settings, Refused>
     ensures settings { (before after : ℕ) → before ≤ F.faults files.old → F.faults files.new ≤ after →
-        ButForMemory result (AreSettings (record { entries = F.entries files.old; before = before; after = after }) (option_copied conf.entry)) }
+        ButForMemory result (AreSettings (telling (F.entries files.old) before after) (option_copied conf.entry)) }
     ensures kept { F.entries files.new ≡ F.entries files.old }
     ensures later { F.faults files.old ≤ F.faults files.new }
 {

@@ -54,6 +54,6 @@ returns-in_err-prepared-clause-due g c =
     let low : g.F.Files.faults files ≤ g.F.Files.faults files = omega arith in
     let high : g.F.Files.faults c.prepare.new.files ≤ g.F.Files.faults c.prepare.new.files = omega arith in
     let due : ButForMemory {A = PreparedView} (Err e) (IsDue inputs.files (conf_of job) text) =
-        rw (← c.conf_of.ensures.conf, ← c.as_slice.ensures.value) (c.in_err-prepared.ensures.due (g.F.Files.faults files) (g.F.Files.faults c.prepare.new.files) low high) in
+    rw (← c.conf_of.ensures.conf, ← c.as_slice.ensures.value) (c.in_err-prepared.ensures.due (g.F.Files.faults files) (g.F.Files.faults c.prepare.new.files) low high) in
     rw (handed c.from_residual-in_err-prepared.result e c.from_residual-in_err-prepared.ensures)
     (prepared_refused inputs (job_of c.args.threads (bytes_of c.args.words.now)) job text e (job_is (job_of c.args.threads (bytes_of c.args.words.now)) job c.in_ok-job.ensures.job) c.in_ok-text.ensures.text due)
