@@ -1,4 +1,9 @@
 pub mod Runs
+pub mod NameLaws
+pub mod FeedingLaws
+pub mod CheckLaws
+pub mod TokenLaws
+pub mod ProgressLaws
 pub mod WorkedSteps
 pub mod WorkedWhole
 pub mod HeldLaws
@@ -7,3 +12,4 @@ pub mod OwnLaws
 pub mod OwnedLaws
 pub mod ContextLaws
 pub mod AllowedLaws
+pub mod WorkLaws

@@ -3,11 +3,7 @@ use Rattle.std.specs.Prelude.{ℕ, Option, Some, None, List, if◌then◌else◌
 use Rattle.std.specs.Str.{bytes_eq}
 use Rattle.ossl_codes.specs.declared.code.Code.{Code}
 use Rattle.ossl_op.specs.declared.params.Params.{Params}
-
--- a method: its token, and the code that was fetched
-pub record Method : Type 0 where
-  pub token : ℕ
-  pub code : Code
+pub use Rattle.ossl_script.specs.declared.bound.Method.{Method}
 
 -- an operation that runs: the token of its context, what it computes, and all bytes that it was fed so far
 pub record Operating : Type 0 where

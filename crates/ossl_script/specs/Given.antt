@@ -1,13 +1,12 @@
 -- What the words behind the fixed ones give a command: the bytes of its data, and its options with their defaults.
 use Rattle.std.specs.Prelude.{ℕ, true, Option, Some, None, List, [], fold, flat_map}
-use Rattle.ossl_codes.specs.declared.code.Operation.{Operation}
 use Rattle.ossl_codes.specs.declared.code.Operation.TheVariants as operations
 use Rattle.ossl_codes.specs.declared.param.Direction.TheVariants.{Encrypt}
 use Rattle.ossl_codes.specs.declared.param.KdfMode.TheVariants.{Both}
-use Rattle.ossl_op.specs.declared.params.Params.{Params}
 use Rattle.ossl_commands.specs.declared.command.Argument.{Argument}
 use Rattle.ossl_commands.specs.declared.command.Argument.TheVariants.{Piece, Retain, Lib, Digest, Cipher, Inner, Key, Iv, Direction as Way, Pad, Salt, Info, Mode, Len}
 pub use Rattle.ossl_commands.specs.Contents.{Content, content_by, data_bytes}
+pub use Rattle.ossl_script.specs.declared.options.Options.{Options}
 
 abbrev pub piece_bytes : Content → Argument → List ℕ
 piece_bytes content (Piece given) = data_bytes content given
@@ -16,17 +15,6 @@ piece_bytes content argument = []
 -- the bytes of all pieces, joined
 abbrev pub fed_by : Content → List Argument → List ℕ
 fed_by content arguments = flat_map (piece_bytes content) arguments
-
--- what the options of a command say
-pub record Options : Type 0 where
-  -- the number of its library context
-  pub lib : ℕ
-  -- the inner algorithm that it is to fetch, and for which operation
-  pub algorithm : Option (Operation × List ℕ)
-  -- the name of the inner method that it uses
-  pub method : Option (List ℕ)
-  -- the parameters of its operation
-  pub params : Params
 
 -- without options: library context 0, no inner algorithm, encryption with padding, both steps of a derivation, and no other parameter
 abbrev pub default_options : Options

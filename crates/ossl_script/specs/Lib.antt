@@ -13,4 +13,11 @@ pub mod Whole
 pub mod Commands
 pub mod Held
 pub mod Caller
+pub mod View
+pub mod Names
+pub mod Feeding
+pub mod Stages
+pub mod Places
+pub mod Progress
+pub mod Work
 pub mod Laws

@@ -2,7 +2,7 @@
 
 ghost use Rattle.std.specs.Prelude.{◌≡◌, option_map};
 ghost use Rattle.ossl_script.specs.Caller.{call_in};
-ghost use Rattle.ossl_script.specs.Laws.{CallsAreAllowed, CallsAreOwned, CallsNameContexts, OwnLinesAlone};
+ghost use Rattle.ossl_script.specs.View.{is_end};
 
 use ossl_base::text::Text;
 use ossl_state::Call;
@@ -18,19 +18,22 @@ pub enum Next {
 
 impl Next {
     /// The call that comes next, if one does.
-    ///
-    /// In a legal history a caller may make each call that comes next: it owns the tokens that the call names, and the library context is one that the
-    /// batch names. Its calls follow from its own lines, what their files hold, and its replies alone; other callers' lines may be others.
     pub fn call(&self) -> Option<&Call>
         ensures call { option_map (λ call. call.now) result ≡ call_in self.now }
-        ensures owned { CallsAreOwned }
-        ensures within { CallsNameContexts }
-        ensures allowed { CallsAreAllowed }
-        ensures alone { OwnLinesAlone }
     {
         match self {
             Next::Call { call, .. } => Some(call),
             Next::End => None,
+        }
+    }
+
+    /// Nothing more comes.
+    pub fn is_end(&self) -> bool
+        ensures end { result ≡ is_end self.now }
+    {
+        match self {
+            Next::Call { .. } => false,
+            Next::End => true,
         }
     }
 }

@@ -2,7 +2,6 @@
 
 ghost use Rattle.std.specs.Prelude.{◌≡◌};
 ghost use Rattle.ossl_script.specs.Held.{give_back_call, handed_out};
-ghost use Rattle.ossl_script.specs.Laws.{GivingBackIsAllowed, GivingBackIsOwned, GivingBackLeavesNone, HeldIsOwned};
 
 use ossl_state::{Call, Reply};
 
@@ -24,12 +23,8 @@ pub struct Held {
 
 impl Held {
     /// The token that a call with its reply hands out, if it does.
-    ///
-    /// A caller that keeps these, but for those that its calls give back, keeps exactly the tokens that it owns.
-    #[tactic(auto, using(crate::proofs::HeldLaws::held_is_owned))]
     pub fn handed_out(call: &Call, reply: &Reply) -> Option<Held>
         ensures token { result ≡ handed_out call.now reply.now }
-        ensures owned { HeldIsOwned }
     {
         let (number, kind) = match (call, reply) {
             (Call::Load { .. }, Reply::Loaded { number, .. }) => (*number, TokenKind::Activation),
@@ -42,14 +37,8 @@ impl Held {
     }
 
     /// The call that gives the token back.
-    ///
-    /// A caller that makes this call of each token that it holds, at whatever moment, may make each of these calls, and owns no token then.
-    #[tactic(auto, using(crate::proofs::HeldLaws::giving_back_leaves_none))]
     pub fn give_back(self) -> Call
         ensures call { result ≡ give_back_call self }
-        ensures owned { GivingBackIsOwned }
-        ensures allowed { GivingBackIsAllowed }
-        ensures leaves_none { GivingBackLeavesNone }
     {
         match self.kind {
             TokenKind::Activation => Call::Unload { token: self.number },

@@ -3,14 +3,30 @@
 //! A token that is handed out or given back is told in a constant number of steps.
 #![tactic(auto)]
 
+mod begin;
+mod bound;
 mod caller;
+mod checks;
+mod commands;
+mod copies;
+mod feeding;
 mod held;
+mod options;
 mod outcome;
+mod progress;
+mod resume;
+mod running;
+mod script_caller;
+mod share;
+mod stage;
+mod tokens;
+mod whole;
 
 pub use caller::{LineResult, Next};
 pub use held::{Held, TokenKind};
 pub use ossl_commands::{Argument, Arguments, Command, Data, Limit, Line, LineKind, ScriptRefused};
 pub use outcome::Outcome;
+pub use script_caller::ScriptCaller;
 
 #[cfg(test)]
 mod tests;

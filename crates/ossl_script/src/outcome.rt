@@ -1,7 +1,6 @@
 //! What comes of a command, and how it is printed.
 
 ghost use Rattle.std.specs.Prelude.{◌≡◌, ◌++◌, OnOk, OnErr};
-ghost use Rattle.ossl_script.specs.Laws.{GoesByReply, ResultsNameNoToken};
 ghost use Rattle.ossl_script.specs.Outcome.{begin_text, bytes_text, finish_text, outcome_of, outcome_text, parameter_text};
 
 use ossl_base::digits::put_hex;
@@ -45,12 +44,8 @@ pub enum Outcome {
 
 impl Outcome {
     /// What comes of a command by the reply to its call, where the reply brings no more: the reply that refuses, or nothing more.
-    ///
-    /// A caller goes by its replies one after the other: each is one step more.
-    #[tactic(auto, using(crate::proofs::HeldLaws::goes_by_reply))]
     pub fn of(reply: Reply) -> Outcome
         ensures outcome { result ≡ outcome_of reply }
-        ensures by_reply { GoesByReply }
     {
         match reply {
             Reply::NoLib
@@ -63,12 +58,9 @@ impl Outcome {
     }
 
     /// Appends the result of a command, as it is printed.
-    ///
-    /// Results name no token: with other numbers of tokens and instances in the replies, all results are the same.
     pub fn put(&self, alloc: Global, out: &mut Vec<u8>) -> Result<(), AllocError>
         ensures ok { OnOk result (out.new.items ≡ out.old.items ++ outcome_text self.now) }
         ensures err { OnErr result (out.new.items ≡ out.old.items) }
-        ensures numberless { ResultsNameNoToken }
     {
         let mut text = Vec::new(alloc);
         put_outcome(alloc, &mut text, self)?;
@@ -76,7 +68,8 @@ impl Outcome {
     }
 }
 
-fn put_outcome(alloc: Global, out: &mut Vec<u8>, outcome: &Outcome) -> Result<(), AllocError>
+/// Appends the result of a command, or a part of it where there is no memory for all.
+pub fn put_outcome(alloc: Global, out: &mut Vec<u8>, outcome: &Outcome) -> Result<(), AllocError>
     ensures { OnOk result (out.new.items ≡ out.old.items ++ outcome_text outcome.now) }
 {
     match outcome {

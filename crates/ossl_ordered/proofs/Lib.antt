@@ -1,0 +1,11 @@
+mod TurnLaws
+mod DoneLaws
+mod FixedLaws
+mod LiveLaws
+mod ClosedLaws
+mod ProgramLaws
+mod WorkLaws
+mod OrderLaws
+mod ReturnLaws
+mod TakeLaws
+mod RunLaws
