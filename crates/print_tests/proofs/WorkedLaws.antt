@@ -92,7 +92,7 @@ pub shared_here : (first second : TableView) (boxes : List TableView) (entries :
     boxes ≡ first ∷ second ∷ [] → entries ≡ shared → IsHistory (map table_facts boxes) 1 entries
 shared_here first second boxes entries f s b h =
     legal_here (box (codes "A") ∷ box (codes "B") ∷ []) (map table_facts boxes) shared entries
-        (ap (map table_facts) b ∙ ap (λ x. x ∷ table_facts second ∷ []) f ∙ ap (λ y. box (codes "A") ∷ y ∷ []) s) h shared_legal
+    (ap (map table_facts) b ∙ ap (λ x. x ∷ table_facts second ∷ []) f ∙ ap (λ y. box (codes "A") ∷ y ∷ []) s) h shared_legal
 
 pub outlived_here : (first : TableView) (boxes : List TableView) (entries : List (Entry Call Reply)) → table_facts first ≡ box (codes "default") → boxes ≡ first ∷ [] → entries ≡ outlived →
     IsHistory (map table_facts boxes) 1 entries

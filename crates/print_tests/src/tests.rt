@@ -142,11 +142,7 @@ fn outlived(alloc: Global) -> Result<Vec<Entry>, AllocError>
 }
 
 /// The printed order of a history of callers 1 and 2 over these boxes.
-fn printed(
-    alloc: Global,
-    boxes: &[TableProvider],
-    history: &[Entry],
-) -> Result<Vec<u8>, AllocError>
+fn printed(alloc: Global, boxes: &[TableProvider], history: &[Entry]) -> Result<Vec<u8>, AllocError>
     requires legal { IsHistory (map table_facts boxes.now) 1 history.now }
 {
     let mut out = Vec::new(alloc);
