@@ -13,8 +13,8 @@ use crate::step::{
 use ossl_aes::Block;
 use ossl_blocks::BlockTaker;
 
-// Whole blocks through a mode in one direction, in place.
-fn each_through<S: Step, C: Block>(cipher: &C, value: &mut [u8; 16], room: &mut [u8])
+/// Whole blocks through a mode in one direction, in place.
+pub fn each_through<S: Step, C: Block>(cipher: &C, value: &mut [u8; 16], room: &mut [u8])
     requires whole { length room.old % 16 ≡ 0 }
     ensures gives { room.new ≡ stepped (S.out (C.enc cipher.now) (C.dec cipher.now)) (S.next (C.enc cipher.now)) (length room.old / 16) value.old room.old }
     ensures next { value.new ≡ value_by (S.out (C.enc cipher.now) (C.dec cipher.now)) (S.next (C.enc cipher.now)) (length room.old / 16) value.old room.old }
@@ -69,8 +69,8 @@ impl<C: Block> BlockMode<C> {
     }
 }
 
-// Appends the bytes, for which there is room.
-fn append_within(out: &mut Vec<u8>, bytes: &[u8])
+/// Appends the bytes, for which there is room.
+pub fn append_within(out: &mut Vec<u8>, bytes: &[u8])
     requires { vec_len out.old + length bytes.now ≤ vec_capacity out.old }
     ensures items { out.new.items ≡ out.old.items ++ bytes.now }
     ensures len { vec_len out.new ≡ vec_len out.old + length bytes.now }

@@ -13,7 +13,9 @@ mod step;
 #[cfg(test)]
 mod tests;
 
+pub use blocks::{append_within, each_through};
 pub use kinds::{FinishRefused, ModeKind};
 pub use length::padded_len;
 pub use mode::run;
 pub use state::Mode;
+pub use step::Step;

@@ -1,9 +1,11 @@
--- What is timed of AES. Its key is as many bytes counting up from 0 as it has, and its IV and first block are 16 such bytes.
-use Rattle.std.specs.Prelude.{ℕ, zero, suc, ◌*◌, ◌/◌, List, length, Bool, false, if◌then◌else◌, Result, Ok, Err}
+-- What is timed of AES. Its key is as many bytes counting up from 0 as it has, and its IV and first
+-- block are 16 such bytes, GCM's IV 12.
+use Rattle.std.specs.Prelude.{ℕ, zero, suc, ◌*◌, ◌/◌, List, [], length, Bool, false, if◌then◌else◌, Result, Ok, Err}
 use Rattle.ossl_aes.specs.Cipher.{encrypted, decrypted}
 use Rattle.ossl_modes.specs.declared.kinds.ModeKind.{ModeKind}
-use Rattle.ossl_modes.specs.declared.kinds.FinishRefused.{FinishRefused}
 use Rattle.ossl_modes.specs.Modes.{outcome, whole_blocks}
+use Rattle.ossl_gcm.specs.Gcm.{gcm}
+use Rattle.ossl_gcm.specs.Outcome.{early}
 use Rattle.ossl_speed.specs.declared.algorithm.KeySize.{KeySize}
 use Rattle.ossl_speed.specs.declared.algorithm.KeySize.TheVariants.{Bits128, Bits192, Bits256}
 use Rattle.ossl_speed.specs.Message.{message}
@@ -26,10 +28,14 @@ unfoldable pub repeated : (List ℕ → List ℕ) → ℕ → List ℕ → List 
 repeated f zero block = block
 repeated f (suc n) block = f (repeated f n block)
 
--- the text of an outcome; where it is a refusal, that of the whole blocks
-abbrev pub text_or : Result (List ℕ) FinishRefused → List ℕ → List ℕ
-text_or (Ok text) whole = text
-text_or (Err _) whole = whole
+-- the text of an outcome; where it is a refusal, that of the whole blocks, or what was given early
+abbrev pub text_or : {E : Type 0} → Result (List ℕ) E → List ℕ → List ℕ
+text_or (Ok text) early = text
+text_or (Err _) early = early
+
+-- a message sealed by GCM, without additional data
+abbrev pub gcm_text : (List ℕ → List ℕ) → List ℕ → List ℕ
+gcm_text e m = text_or (gcm e (message 12) [] false m) (early e (message 12) false m)
 
 module _ (e d : List ℕ → List ℕ) where
   -- the text of a message in a mode without padding

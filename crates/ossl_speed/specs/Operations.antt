@@ -12,7 +12,7 @@ use Rattle.ossl_modes.specs.declared.kinds.ModeKind.{ModeKind}
 use Rattle.ossl_modes.specs.declared.kinds.ModeKind.TheVariants as kind
 use Rattle.ossl_speed.specs.declared.algorithm.Algorithm.{Algorithm}
 use Rattle.ossl_speed.specs.declared.algorithm.Algorithm.TheVariants.{Digest, Hmac, Hkdf, ChaCha20, Rc4, Aes}
-use Rattle.ossl_speed.specs.declared.algorithm.AesWork.TheVariants.{Mode, Chain, Cmac}
+use Rattle.ossl_speed.specs.declared.algorithm.AesWork.TheVariants.{Mode, Chain, Cmac, Gcm}
 use Rattle.ossl_speed.specs.declared.algorithm.KeySize.{KeySize}
 use Rattle.ossl_speed.specs.declared.algorithm.KeySize.TheVariants.{Bits128, Bits192, Bits256}
 
@@ -40,7 +40,7 @@ mode_of kind.Cfb = mode.Cfb
 mode_of kind.Ofb = mode.Ofb
 mode_of kind.Ctr = mode.Ctr
 
--- the code of the operation; the block function alone is nearest to ECB
+-- the code of the operation; the block function alone is nearest to ECB, and GCM, which is no operation, to CTR
 abbrev pub code_of : Algorithm → Code
 code_of (Digest hash) = hash_code hash
 code_of (Hmac hash) = code.Hmac
@@ -50,6 +50,7 @@ code_of Rc4 = code.Rc4
 code_of (Aes size (Mode kind decrypt)) = code.Aes (bits_of size) (mode_of kind)
 code_of (Aes size (Chain decrypt)) = code.Aes (bits_of size) mode.Ecb
 code_of (Aes size Cmac) = code.Cmac
+code_of (Aes size Gcm) = code.Aes (bits_of size) mode.Ctr
 
 -- the code that it runs on, where it runs on one
 abbrev pub inner_of : Algorithm → Option Code

@@ -6,6 +6,8 @@ use Rattle.ossl_legacy.specs.Rc4State as R
 use Rattle.ossl_aes.specs.declared.block.Block.{Ghosts}
 use Rattle.ossl_modes.specs.declared.state.Mode.{Mode}
 use Rattle.ossl_modes.specs.Run.{outcome_of, whole_blocks_of}
+use Rattle.ossl_gcm.specs.declared.state.Gcm.{Gcm}
+use Rattle.ossl_gcm.specs.Outcome as G
 use Rattle.ossl_speed.specs.Aes.{text_or}
 use Rattle.ossl_speed.specs.Values.{last}
 
@@ -20,6 +22,10 @@ rc4_text state bytes = R.text_of state bytes
 -- the text that a mode gives of the bytes that come yet; where their end is refused, of their whole blocks
 abbrev pub text_of_mode : {C : Type 0} {g : Ghosts C} → Mode C g → List ℕ → List ℕ
 text_of_mode mode bytes = text_or (outcome_of mode bytes) (whole_blocks_of mode bytes)
+
+-- the text that GCM gives of the bytes that come yet; where their end is refused, what it gives early
+abbrev pub text_of_gcm : {C : Type 0} → (C → List ℕ → List ℕ) → Gcm C → List ℕ → List ℕ
+text_of_gcm enc text bytes = text_or (G.outcome_of enc text bytes) (G.early_of enc text bytes)
 
 -- with the bytes x put in front of whatever comes yet, the text before, given and yet to come, ends as the text after
 abbrev pub IsSealingFed : (List ℕ → List ℕ) → List ℕ → List ℕ → (List ℕ → List ℕ) → List ℕ → Type 0

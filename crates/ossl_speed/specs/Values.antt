@@ -10,9 +10,9 @@ use Rattle.ossl_cmac.specs.Cmac as T
 use Rattle.ossl_speed.specs.declared.algorithm.Algorithm.{Algorithm}
 use Rattle.ossl_speed.specs.declared.algorithm.Algorithm.TheVariants.{Digest, Hmac, Hkdf, ChaCha20, Rc4, Aes}
 use Rattle.ossl_speed.specs.declared.algorithm.AesWork.{AesWork}
-use Rattle.ossl_speed.specs.declared.algorithm.AesWork.TheVariants.{Mode, Chain, Cmac}
+use Rattle.ossl_speed.specs.declared.algorithm.AesWork.TheVariants.{Mode, Chain, Cmac, Gcm}
 use Rattle.ossl_speed.specs.Message.{message}
-use Rattle.ossl_speed.specs.Aes.{words_of, enc, dec, mode_text, chain_end}
+use Rattle.ossl_speed.specs.Aes.{words_of, enc, dec, mode_text, chain_end, gcm_text}
 
 -- the last n bytes of a list, or all of a shorter one
 abbrev pub last : ℕ → List ℕ → List ℕ
@@ -23,6 +23,7 @@ abbrev pub aes_value : ℕ → AesWork → List ℕ → List ℕ
 aes_value nk (Mode kind decrypt) m = last 64 (mode_text (enc nk) (dec nk) kind decrypt m)
 aes_value nk (Chain decrypt) m = chain_end (enc nk) (dec nk) decrypt m
 aes_value nk Cmac m = T.cmac (enc nk) m
+aes_value nk Gcm m = last 64 (gcm_text (enc nk) m)
 
 -- what an algorithm gives of a message; of a text the last 64 bytes
 abbrev pub value_of : Algorithm → List ℕ → List ℕ

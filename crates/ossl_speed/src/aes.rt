@@ -4,7 +4,7 @@ ghost use Rattle.ossl_cmac.specs.Cmac.{cmac};
 ghost use Rattle.ossl_speed.specs.Bytes.{bytes_of};
 ghost use Rattle.ossl_speed.specs.Message.{message};
 ghost use Rattle.ossl_speed.specs.Values.{last, aes_value};
-ghost use Rattle.ossl_speed.specs.Aes.{repeated, mode_text};
+ghost use Rattle.ossl_speed.specs.Aes.{repeated, mode_text, gcm_text};
 
 use crate::algorithm::AesWork;
 use crate::cipher::end_of_text;
@@ -13,6 +13,7 @@ use crate::message::{PIECE, front};
 use crate::value::{Value, first_bytes};
 use ossl_aes::{Aes, Block};
 use ossl_cmac::Cmac;
+use ossl_gcm::Gcm;
 use ossl_modes::{Mode, ModeKind};
 use std::alloc::{AllocError, Global};
 
@@ -38,6 +39,10 @@ pub fn aes_value<const NK: usize, const WORDS: usize>(
             Ok(Value::Block(block))
         }
         AesWork::Cmac => Ok(Value::Block(code_of(cipher, piece, length)?)),
+        AesWork::Gcm => {
+            let sealed = sealed_text(alloc, cipher, piece, length)?;
+            Ok(Value::Text(sealed))
+        }
     }
 }
 
@@ -56,6 +61,24 @@ fn text_of<C: Block>(
 {
     let mode = Mode::new(cipher, kind, first_bytes(piece), decrypt, false);
     end_of_text(alloc, mode, piece, length)
+}
+
+// The end of the message sealed.
+#[inline(always)]
+fn sealed_text<C: Block>(
+    alloc: Global,
+    cipher: C,
+    piece: &[u8],
+    length: usize,
+) -> Result<Vec<u8>, AllocError>
+    requires { piece.now ≡ message PIECE }
+    ensures { IfOk result (λ end. end.items ≡ last 64 (gcm_text (C.enc cipher) (message length))) }
+{
+    let iv: [u8; 12] = first_bytes(piece);
+    match Gcm::new(cipher, &iv, &[], false) {
+        Ok(gcm) => end_of_text(alloc, gcm, piece, length),
+        Err(_) => unreachable!(),
+    }
 }
 
 // The block function alone, so many times.

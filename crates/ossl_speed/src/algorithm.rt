@@ -17,6 +17,8 @@ pub enum AesWork {
     /// The block function alone: as often as the message has blocks, each time on what it gave before.
     Chain { decrypt: bool },
     Cmac,
+    /// Galois/Counter mode without additional data, sealed under an IV of 12 bytes.
+    Gcm,
 }
 
 /// An algorithm that can be timed.
@@ -65,7 +67,7 @@ macro_rules! aes {
 
 // The names, each with its algorithm: those of the built-in tables, for HMAC, HKDF and CMAC the hash or the cipher behind
 // a dash, for a direction in which the text is decrypted that word behind a dash, and BLOCK for the block function alone.
-const NAMES: [(&str, Algorithm); 68] = [
+const NAMES: [(&str, Algorithm); 71] = [
     ("SHA2-256", Algorithm::Digest(Hash::Sha256)),
     ("SHA-256", Algorithm::Digest(Hash::Sha256)),
     ("SHA256", Algorithm::Digest(Hash::Sha256)),
@@ -113,6 +115,10 @@ const NAMES: [(&str, Algorithm); 68] = [
         "CMAC-AES-128",
         Algorithm::Aes(KeySize::Bits128, AesWork::Cmac),
     ),
+    (
+        "AES-128-GCM",
+        Algorithm::Aes(KeySize::Bits128, AesWork::Gcm),
+    ),
     ("AES-192-ECB", aes!(Bits192 Ecb false)),
     ("AES-192-ECB-decrypt", aes!(Bits192 Ecb true)),
     ("AES-192-CBC", aes!(Bits192 Cbc false)),
@@ -128,6 +134,10 @@ const NAMES: [(&str, Algorithm); 68] = [
         "CMAC-AES-192",
         Algorithm::Aes(KeySize::Bits192, AesWork::Cmac),
     ),
+    (
+        "AES-192-GCM",
+        Algorithm::Aes(KeySize::Bits192, AesWork::Gcm),
+    ),
     ("AES-256-ECB", aes!(Bits256 Ecb false)),
     ("AES-256-ECB-decrypt", aes!(Bits256 Ecb true)),
     ("AES-256-CBC", aes!(Bits256 Cbc false)),
@@ -142,6 +152,10 @@ const NAMES: [(&str, Algorithm); 68] = [
     (
         "CMAC-AES-256",
         Algorithm::Aes(KeySize::Bits256, AesWork::Cmac),
+    ),
+    (
+        "AES-256-GCM",
+        Algorithm::Aes(KeySize::Bits256, AesWork::Gcm),
     ),
 ];
 

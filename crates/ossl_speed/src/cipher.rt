@@ -8,6 +8,7 @@ use crate::intake::{Intake, take_message};
 use crate::message::PIECE;
 use ossl_aes::Block;
 use ossl_chacha::ChaCha;
+use ossl_gcm::Gcm;
 use ossl_legacy::Rc4;
 use ossl_modes::Mode;
 use std::alloc::{AllocError, Global};
@@ -72,6 +73,25 @@ impl<C: Block> Cipher for Mode<C> {
         match self.finish(out) {
             Ok(()) => Ok(()),
             // The words ask for whole blocks where the mode wants them, so memory is what lacks.
+            Err(_) => Err(AllocError),
+        }
+    }
+}
+
+impl<C: Block> Cipher for Gcm<C> {
+    ghost use Rattle.ossl_speed.specs.Streams.{text_of_gcm};
+
+    ghost text = { λ gcm bytes. text_of_gcm C.enc gcm bytes };
+
+    #[inline(always)]
+    fn crypt(&mut self, bytes: &[u8], out: &mut Vec<u8>) -> Result<(), AllocError> {
+        self.feed(bytes, out)
+    }
+
+    fn end(self, out: &mut Vec<u8>) -> Result<(), AllocError> {
+        match self.finish(out) {
+            Ok(()) => Ok(()),
+            // A message is shorter than the counter reaches, so memory is what lacks.
             Err(_) => Err(AllocError),
         }
     }

@@ -70,6 +70,10 @@ pub fn code_of(algorithm: Algorithm) -> Code
             mode: AesMode::Ecb,
         },
         Algorithm::Aes(_, AesWork::Cmac) => Code::Cmac,
+        Algorithm::Aes(size, AesWork::Gcm) => Code::Aes {
+            bits: bits_of(size),
+            mode: AesMode::Ctr,
+        },
     }
 }
 

@@ -1,0 +1,4 @@
+pub mod Linear
+pub mod Nibbles
+pub mod Hashing
+pub mod Vectors
