@@ -188,7 +188,7 @@ module _ (batch : Batch) where
       let P : List (Entry Call Reply) → Type 0 = λ all. by_text batch all ≡ None in
       subst P (append_assoc past (e ∷ []) es) (ends next.rest (past ++ e ∷ []) es later)
 
-  ended_at : (c : ℕ) (list : List ℕ) (es : List (Entry Call Reply)) → 0 < c → c ≤ callers_of batch.lines → IsInTurn batch list [] es → next_of batch c (replies_to c es) ≡ nexts.End
+  pub ended_at : (c : ℕ) (list : List ℕ) (es : List (Entry Call Reply)) → 0 < c → c ≤ callers_of batch.lines → IsInTurn batch list [] es → next_of batch c (replies_to c es) ≡ nexts.End
   ended_at c list es low high run =
       at_end c (next_of batch c (replies_to c es))
       (each_in (λ k. turn_at batch es k ≡ None) c 1 (callers_of batch.lines) (omega (arith, low)) (omega (arith, high)) (each_none (turn_at batch es) (callers_in batch) (ends list [] es run)))

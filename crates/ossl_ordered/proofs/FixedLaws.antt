@@ -239,7 +239,7 @@ one_run settings batch list fixed entries others run legal other other_legal ref
         (other.closed.calls ∙ ap (λ o. closing_calls (contexts_of batch.lines) (activations_of o)) opening.same ∙ sym run.closed.calls))
 
 -- how many faults the boxes had before is looked at by no rule
-same_opened : (facts : List Facts) (contexts : ℕ) (opened other : List ℕ) (s : State) (past es : List (Entry Call Reply)) → IsRun (record { facts = facts; contexts = contexts; opened = opened }) s past es →
+pub same_opened : (facts : List Facts) (contexts : ℕ) (opened other : List ℕ) (s : State) (past es : List (Entry Call Reply)) → IsRun (record { facts = facts; contexts = contexts; opened = opened }) s past es →
     IsRun (record { facts = facts; contexts = contexts; opened = other }) s past es
 same_opened facts contexts opened other s past [] run = tt
 same_opened facts contexts opened other s past (e ∷ es) run = (

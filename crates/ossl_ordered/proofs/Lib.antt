@@ -1,11 +1,13 @@
-mod TurnLaws
-mod DoneLaws
-mod FixedLaws
+pub mod TurnLaws
+pub mod DoneLaws
+pub mod FixedLaws
 mod LiveLaws
 mod ClosedLaws
-mod ProgramLaws
+pub mod ProgramLaws
 mod WorkLaws
 mod OrderLaws
 mod ReturnLaws
 mod TakeLaws
-mod RunLaws
+pub mod RunLaws
+mod EachLaws
+mod WorkedRuns

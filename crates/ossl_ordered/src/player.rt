@@ -34,10 +34,10 @@ impl Player {
         contents: &[Bytes],
         caller: u64,
     ) -> Result<Player, AllocError>
-        requires each { length contents.now ≡ length script.now.files }
         ensures number { IfOk result (λ p. p.caller ≡ caller) }
         ensures same { IfOk result (λ p. p.work.caller ≡ caller) }
         ensures fresh { IfOk result (λ p. p.work.replies ≡ []) }
+        ensures keeps { IfOk result (λ p. p.work.given ≡ []) }
         ensures speaks { IfOk result (λ p. SpeaksFor script.now.commands contents.now p.work) }
         ensures ready { IfOk result IsReady }
     {
@@ -97,7 +97,6 @@ pub fn players(
     script: &Script,
     contents: &[Bytes],
 ) -> Result<Vec<Player>, AllocError>
-    requires each { length contents.now ≡ length script.now.files }
     ensures each { IfOk result (λ players. length players.items ≡ callers_of script.now.commands) }
     ensures ready { IfOk result (λ players. AreReady players.items) }
     ensures work { IfOk result (λ players. AreFresh script.now.commands contents.now players.items) }

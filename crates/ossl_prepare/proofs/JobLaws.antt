@@ -1,6 +1,6 @@
 -- A generated batch has callers.
-use Rattle.std.proofs.Common.{◌≡◌, ℕ, ◌≤◌, ◌-◌, ◌^◌, Bool, true, false, nat_lt, ◌||◌, List, [], ◌∷◌, refl, sym, ap, subst, ◌∙◌, arith, inl, inr, if◌then◌else◌, Ok, Err}
-use Rattle.std.specs.Prelude.{Option, Some, None, option_and_then, option_map}
+use Rattle.std.proofs.Common.{◌≡◌, ℕ, ◌≤◌, Bool, true, false, nat_lt, List, [], ◌∷◌, refl, sym, ap, subst, arith, inl, inr, if◌then◌else◌, Ok, Err}
+use Rattle.std.specs.Prelude.{Option, Some, None, option_and_then}
 use Rattle.std.specs.Str.{bytes_eq}
 use Rattle.std.specs.Str.Parse.{digits_value}
 use Rattle.std.specs.List.{list_any}
@@ -15,10 +15,9 @@ use Rattle.ossl_prepare.specs.Answered.{ButForMemory, IsDue}
 use Rattle.ossl_prepare.specs.Task.{HasCallers, Inputs, IsDueOf, IsText, conf_of, job_or}
 use Rattle.ossl_prepare.specs.View.{PreparedView}
 use Rattle.ossl_words.specs.Commands.{gen_from, lines_of, run_from, seed_of, gen_job, gen_takes, gen_with, is_bare, job_of, name_of, named_job, read_if_given, read_or, run_job, run_takes, run_with}
-use Rattle.ossl_words.specs.Numbers.{caller_of, is_decimal, kept_within, number_of, order_of}
-use Rattle.ossl_words.specs.Options.{Given, Word, given_by, value_at}
+use Rattle.ossl_words.specs.Numbers.{caller_of, is_decimal, kept_within, order_of}
+use Rattle.ossl_words.specs.Options.{Word, given_by, value_at}
 use Rattle.ossl_words.specs.declared.job.Job.{Job}
-use Rattle.ossl_words.specs.declared.job.Job.TheVariants.{Run, Gen}
 
 abbrev IfJob : Option Job → Type 0
 IfJob None = Unit {0}

@@ -5,3 +5,4 @@ mod DueLaws
 mod StepLaws
 mod JobLaws
 mod TextLaws
+mod WorkedLines

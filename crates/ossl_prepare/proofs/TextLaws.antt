@@ -1,5 +1,5 @@
 -- The text of a batch, and the checks of a whole top call where all is told.
-use Rattle.std.proofs.Common.{◌≡◌, ◌⊎◌, ℕ, ◌<◌, ◌≤◌, Bool, true, false, nat_lt, List, [], ◌++◌, length, refl, sym, ap, subst, ◌∙◌, arith, append-nil, inl, inr, if◌then◌else◌, Result, Ok, Err}
+use Rattle.std.proofs.Common.{◌≡◌, ◌⊎◌, ℕ, ◌<◌, ◌≤◌, true, false, nat_lt, List, ◌++◌, length, refl, sym, ap, subst, ◌∙◌, arith, append-nil, inl, inr, Result, Ok, Err}
 use Rattle.std.specs.Prelude.{Option, Some, None, IfSome}
 use Rattle.std.specs.Io.KnownBytes.{Consumes, IsAtEnd}
 use Rattle.std.proofs.lemmas.Bool.Decides.{nat_tests}
@@ -8,12 +8,9 @@ use Rattle.ossl_base.specs.Files.{Entries}
 use Rattle.ossl_commands.specs.declared.limit.Limit.TheVariants as limits
 use Rattle.ossl_commands.specs.Limit.{most_of}
 use Rattle.ossl_conf.specs.Answers.{told}
-use Rattle.ossl_generate.specs.Generator.{generated}
 use Rattle.ossl_prepare.specs.declared.error_line.ErrorLine.{ErrorLine}
-use Rattle.ossl_prepare.specs.declared.error_line.ErrorLine.TheVariants.{Usage, Read, Limit, Configuration, Batch, Provider}
-use Rattle.ossl_prepare.specs.declared.refused.Refused.{Refused}
-use Rattle.ossl_prepare.specs.declared.refused.Refused.TheVariants.{Error, NoMemory}
-use Rattle.ossl_prepare.specs.Answered.{ButForMemory, IsDue, Then, Told}
+use Rattle.ossl_prepare.specs.declared.error_line.ErrorLine.TheVariants.{Read, Limit}
+use Rattle.ossl_prepare.specs.Answered.{IsDue, Then}
 use Rattle.ossl_prepare.specs.Due.{◌>>=◌, due_batch}
 use Rattle.ossl_prepare.specs.View.{PreparedView}
 use Rattle.ossl_prepare.proofs.DueLaws.{due_is_told}
@@ -21,7 +18,7 @@ use Rattle.ossl_words.specs.Commands.{job_of}
 use Rattle.ossl_words.specs.declared.job.Job.{Job}
 use Rattle.ossl_words.specs.declared.job.Job.TheVariants.{Run, Gen}
 use Rattle.ossl_prepare.specs.declared.reading.Task.{Task}
-use Rattle.ossl_prepare.specs.Task.{DueRunIsTold, Inputs, IsDueOf, IsDueRun, IsText, conf_of, due_error, due_job, task_with, text_of}
+use Rattle.ossl_prepare.specs.Task.{DueRunIsTold, Inputs, IsDueOf, IsText, conf_of, due_job, task_with, text_of}
 
 -- all that was left was taken
 pub whole_text : (old new : Option (List ℕ)) (text : List ℕ) → Consumes old new text → IsAtEnd new → IfSome old (λ bytes. bytes ≡ text)

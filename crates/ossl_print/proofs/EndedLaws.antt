@@ -3,10 +3,8 @@ use Rattle.std.proofs.Common.{◌≡◌, ℕ, List, [], ◌∷◌, ◌++◌, map
 use Rattle.std.specs.List.{fold}
 use Rattle.std.proofs.lemmas.List.{append-nil, map-append}
 use Rattle.ossl_commands.specs.declared.command.Line.{Line}
-use Rattle.ossl_state.specs.declared.call.Call.{Call}
 use Rattle.ossl_state.specs.declared.call.Reply.{Reply}
 use Rattle.ossl_script.specs.declared.caller.LineResult.{LineResult}
-use Rattle.ossl_script.specs.declared.caller.Next.{Next}
 use Rattle.ossl_script.specs.declared.caller.Next.TheVariants as nexts
 use Rattle.ossl_script.specs.declared.held.Held.{Held}
 use Rattle.ossl_script.specs.Bindings.{nothing_bound}
@@ -17,7 +15,6 @@ use Rattle.ossl_script.specs.Course.{Course}
 use Rattle.ossl_script.specs.Course.Course.{ask, said}
 use Rattle.ossl_script.specs.Given.{Content, content_by}
 use Rattle.ossl_script.specs.Held.{held_after}
-use Rattle.ossl_print.specs.Batched.{Batch, next_of, results_of}
 use Rattle.ossl_print.specs.Output.{EndedIsTold}
 
 abbrev number_of_line : Line → ℕ

@@ -2,3 +2,4 @@
 pub mod OrderLaws
 pub mod ResultsLaws
 pub mod EndedLaws
+mod WorkedOutputs

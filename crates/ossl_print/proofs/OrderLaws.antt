@@ -1,6 +1,5 @@
 -- The lines of a history, one entry after another.
-use Rattle.std.proofs.Common.{◌≡◌, ℕ, ◌+◌, ◌<◌, Bool, true, false, not, List, [], ◌∷◌, ◌++◌, length, take, drop, get_or, refl, sym, ◌∙◌, ap, append_assoc, arith, cond, suc, inl, inr, drop-cons, add-one}
-use Rattle.std.specs.List.{flat_map, filter}
+use Rattle.std.proofs.Common.{◌≡◌, ℕ, ◌+◌, ◌<◌, List, [], ◌∷◌, ◌++◌, length, take, drop, get_or, refl, sym, ◌∙◌, ap, append_assoc, suc, inl, inr, drop-cons, add-one}
 use Rattle.std.specs.Prelude.{codes}
 use Rattle.std.proofs.lemmas.Bool.{cases_Bool}
 use Rattle.std.proofs.lemmas.List.{take-append-drop, take_more}
@@ -14,7 +13,7 @@ use Rattle.ossl_state.proofs.HistoryLaws.{state_after-push}
 use Rattle.ossl_state.proofs.NextLaws.{legal-each}
 use Rattle.ossl_watch.specs.declared.up.Up.{Up}
 use Rattle.ossl_watch.specs.Changes.{is_among, lacking, started_by, stopped_by, ups_of}
-use Rattle.ossl_print.specs.Order.{Showing, change_text, changes_text, entry_line, entry_lines, instance_text, mark_text, numbered_text, told_text}
+use Rattle.ossl_print.specs.Order.{Showing, changes_text, entry_line, entry_lines, instance_text, mark_text, numbered_text, told_text}
 
 -- the instances that the other list lacks, told one by one
 told_changes : (word : List ℕ) (facts : List Facts) (these others : List Up) → changes_text word facts these others ≡ told_text word facts (lacking others these)

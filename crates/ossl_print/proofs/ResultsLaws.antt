@@ -1,8 +1,8 @@
 -- The results of lines, each told from its caller's list by the number of lines of the caller so far.
-use Rattle.std.proofs.Common.{◌≡◌, ℕ, ◌+◌, ◌-◌, ◌<◌, ◌≤◌, Bool, true, false, not, ◌||◌, ◌&&◌, nat_eq, nat_lt, nat_le, List, [], ◌∷◌, ◌++◌, length, map, take, drop, get_or, refl, sym, ◌∙◌, ap, append_assoc, arith, cond, suc, zero, inl, inr, drop-cons, add-one}
-use Rattle.std.specs.List.{list_all, list_any, filter, find}
-use Rattle.std.specs.Prelude.{None, Some, unwrap_or}
-use Rattle.std.proofs.lemmas.Bool.{cases_Bool, and_parts, eq-eqb, eqb-true, leb-true, ltb-true, true≢false}
+use Rattle.std.proofs.Common.{◌≡◌, ℕ, ◌+◌, ◌<◌, ◌≤◌, Bool, true, false, not, ◌&&◌, nat_eq, nat_lt, nat_le, List, [], ◌∷◌, ◌++◌, length, map, take, drop, get_or, refl, sym, ◌∙◌, ap, arith, cond, suc, zero, drop-cons, add-one}
+use Rattle.std.specs.List.{list_all, filter, find}
+use Rattle.std.specs.Prelude.{Some, unwrap_or}
+use Rattle.std.proofs.lemmas.Bool.{and_parts, eq-eqb, leb-true, ltb-true}
 use Rattle.std.proofs.lemmas.Grind.{common_steps}
 use Rattle.std.proofs.lemmas.List.{take-append-drop, take_more, map-append}
 use Rattle.std.proofs.lemmas.List.Elements.{filter-append}
@@ -11,7 +11,7 @@ use Rattle.ossl_commands.specs.declared.command.Line.{Line}
 use Rattle.ossl_commands.specs.Counts.{lines_of}
 use Rattle.ossl_provider.specs.Members.{is_distinct, is_in}
 use Rattle.ossl_script.specs.declared.caller.LineResult.{LineResult}
-use Rattle.ossl_print.specs.Results.{AreTold, IsEachTold, result_among, results_by, told_to}
+use Rattle.ossl_print.specs.Results.{AreTold, result_among, results_by, told_to}
 
 abbrev number_of_line : Line → ℕ
 number_of_line line = line.number

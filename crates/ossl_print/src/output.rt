@@ -16,6 +16,7 @@ use ossl_state::Entry;
 use std::alloc::{AllocError, Global};
 
 /// What is printed of a finished run.
+#[derive(Drop)]
 pub struct Printed<'a, P: Provider> {
     /// The boxes over which the history is legal, and how many library contexts there are.
     pub catalogue: &'a [P],

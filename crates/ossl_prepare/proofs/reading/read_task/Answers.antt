@@ -1,5 +1,4 @@
-use Rattle.std.proofs.Common.{◌≡◌, ◌≤◌, ℕ, List, Ok, Err, refl, sym, ap, ◌∙◌, arith}
-use Rattle.std.specs.Option.{option_copied}
+use Rattle.std.proofs.Common.{◌≤◌, Err, sym, ap, ◌∙◌, arith}
 use Rattle.ossl_prepare.specs.Answered.{ButForMemory, IsDue}
 use Rattle.ossl_prepare.specs.Task.{Inputs, conf_of, reads_source}
 use Rattle.ossl_prepare.specs.View.{PreparedView}

@@ -1,4 +1,4 @@
-use Rattle.std.proofs.Common.{rules, ◌≡◌, ℕ, ◌+◌, ◌-◌, ◌^◌, ◌<◌, ◌++◌, ◌∷◌, [], List, length, map, take, drop, get_or, refl, sym, ◌∙◌, ap, subst, arith, append_assoc}
+use Rattle.std.proofs.Common.{◌≡◌, ℕ, ◌+◌, ◌^◌, ◌<◌, ◌++◌, List, length, map, take, drop, get_or, refl, sym, ◌∙◌, ap, subst, arith, append_assoc}
 use Rattle.std.proofs.lemmas.List.{length-take}
 use Rattle.std.specs.Prelude.{codes, option_map, option_to_list}
 use Rattle.std.specs.Fmt.{decimal}
@@ -8,7 +8,7 @@ use Rattle.ossl_state.specs.declared.call.Call.{Call}
 use Rattle.ossl_state.specs.declared.call.Reply.{Reply}
 use Rattle.ossl_state.specs.History.{IsLegal, state_after}
 use Rattle.ossl_state.specs.Text.{entry_text}
-use Rattle.ossl_print.specs.Order.{entry_lines, lines_of, mark_text, order_text, showing_of, told_text}
+use Rattle.ossl_print.specs.Order.{entry_lines, lines_of, mark_text, showing_of, told_text}
 use Rattle.ossl_print.proofs.OrderLaws.{next_here, taken, written_more}
 use Rattle.ossl_watch.specs.Changes.{fixed_over}
 use Rattle.ossl_watch.specs.Watched.{Watched}

@@ -1,5 +1,4 @@
-use Rattle.std.proofs.Common.{rules, ◌≡◌, length, map, sym, Vec, Global}
-use Rattle.std.proofs.lemmas.Grind.{common_steps}
+use Rattle.std.proofs.Common.{rules, length, map, Vec, Global}
 use Rattle.ossl_script.specs.declared.caller.LineResult.{LineResult}
 use Rattle.ossl_print.specs.Batched.{replies_to, results_of}
 use Rattle.ossl_print.specs.Order.{history_number}

@@ -1,4 +1,4 @@
-use Rattle.std.proofs.Common.{rules, ◌≡◌, ℕ, ◌+◌, ◌-◌, ◌<◌, ◌++◌, ◌∷◌, [], List, length, map, take, get_or, refl, sym, ◌∙◌, ap, arith, cond, inl, inr, append_assoc, length-append, nat_eq, Vec, Global, ◌≤◌}
+use Rattle.std.proofs.Common.{◌≡◌, ℕ, ◌+◌, ◌-◌, ◌<◌, ◌++◌, ◌∷◌, [], List, length, map, take, get_or, refl, sym, ◌∙◌, ap, arith, cond, inl, inr, append_assoc, length-append, nat_eq, Vec, Global, ◌≤◌}
 use Rattle.std.proofs.Math.ListN.{set, length-set}
 use Rattle.std.specs.Prelude.{codes}
 use Rattle.std.specs.List.{flat_map}
@@ -9,7 +9,7 @@ use Rattle.std.proofs.lemmas.List.Concat.{flat_map-append}
 use Rattle.ossl_commands.specs.declared.command.Line.{Line}
 use Rattle.ossl_commands.specs.Counts.{lines_of}
 use Rattle.ossl_script.specs.declared.caller.LineResult.{LineResult}
-use Rattle.ossl_print.specs.Results.{AreTold, result_among, result_line, results_by, told_to}
+use Rattle.ossl_print.specs.Results.{result_among, result_line, results_by, told_to}
 use Rattle.ossl_print.proofs.ResultsLaws.{caller_in, default_at, map_at, own_more, result_here}
 use Rattle.ossl_print.proofs.results.write_results.Goals as goal
 
