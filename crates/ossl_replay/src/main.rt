@@ -1,5 +1,6 @@
 //! Answers a batch on standard input with the order of its registry calls and the results, on standard output.
-//! It makes the real source and sink and the five built-in boxes, calls `replay`, and ends with its status.
+//! It makes the real source and sink, the files of the working folder and the five built-in boxes, calls `replay`, and ends with
+//! its status.
 //! What it promises is the contract of `replay`; that the streams are the real ones is seen by reading.
 #![tactic(auto)]
 
@@ -9,17 +10,15 @@ ghost use Rattle.ossl_provider.specs.Table.{table_facts, table_sheet};
 ghost use Rattle.ossl_rows.specs.Tables.{table_of};
 ghost use Rattle.ossl_calls.specs.Registry.{IsCatalogue};
 
-use ossl_base::{MemFiles, Sink, Source, StdSink, StdSource};
+use ossl_base::{Files, Sink, Source, StdSink, StdSource};
+use ossl_files::DirFiles;
 use ossl_provider::Boxed;
 use ossl_rows::{Builtin, builtin};
-use ossl_run::replay::replay;
+use ossl_run::replay;
 use std::alloc::{AllocError, Global};
 use std::env;
 use std::io::ErrorKind;
 use std::process::ExitCode;
-
-#[cfg(test)]
-mod tests;
 
 /// The status for want of memory.
 const NO_MEMORY: u8 = 9;
@@ -35,10 +34,11 @@ fn words(rt: &HostRuntime) -> Result<Vec<String>, AllocError> {
 }
 
 /// Answers the batch of a source over the five built-in providers, and gives the status.
-fn answer<S: Source, K: Sink>(
+fn answer<S: Source, F: Files, K: Sink>(
     alloc: Global,
     words: &[String],
     source: &mut S,
+    files: &mut F,
     sink: &mut K,
 ) -> Result<u8, AllocError> {
     let default: Boxed = Box::new(alloc, builtin(alloc, Builtin::Default)?)?;
@@ -47,8 +47,7 @@ fn answer<S: Source, K: Sink>(
     let null: Boxed = Box::new(alloc, builtin(alloc, Builtin::Null)?)?;
     let base: Boxed = Box::new(alloc, builtin(alloc, Builtin::Base)?)?;
     let catalogue = Vec::from_array(alloc, [default, legacy, fips, null, base])?;
-    let mut files = MemFiles::new(Vec::new(alloc), Vec::new(alloc));
-    let outcome = replay(alloc, words, source, &mut files, sink, catalogue);
+    let outcome = replay(alloc, words, source, files, sink, catalogue);
     Ok(outcome.status)
 }
 
@@ -56,8 +55,15 @@ fn answer<S: Source, K: Sink>(
 fn run(rt: &HostRuntime) -> Result<u8, AllocError> {
     let words = words(rt)?;
     let mut source = StdSource::new(rt.stdin());
+    let mut files = DirFiles::new(rt);
     let mut sink = StdSink::new(rt.stdout());
-    answer(rt.alloc(), words.as_slice(), &mut source, &mut sink)
+    answer(
+        rt.alloc(),
+        words.as_slice(),
+        &mut source,
+        &mut files,
+        &mut sink,
+    )
 }
 
 fn main(rt: HostRuntime) -> ExitCode {

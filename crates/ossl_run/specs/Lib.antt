@@ -1,13 +1,3 @@
 -- What the contracts of the crate cite.
-pub mod Asked
-pub mod Batch
-pub mod Batched
-pub mod ErrorLine
-pub mod Headline
-pub mod Opening
-pub mod Ordered
-pub mod Printed
-pub mod Refused
-pub mod Script
-pub mod Turns
-pub mod Words
+pub mod Ending
+pub mod Middle

@@ -1,0 +1,84 @@
+use Rattle.std.proofs.Common.{false}
+use Rattle.ossl_words.specs.Commands.{bytes_of}
+use Rattle.ossl_ordered.proofs.DoneLaws.{each_caller_is_done, program_is_apart}
+use Rattle.ossl_ordered.proofs.FixedLaws.{run_is_fixed}
+use Rattle.ossl_ordered.proofs.RunLaws.{run_in_order_is_run}
+use Rattle.ossl_ordered.proofs.TurnLaws.{order_of_text}
+use Rattle.ossl_run.proofs.top_call.replay.Goals as goal
+
+-- 1. How the call ends.
+
+pub returns-in-Ok-clause-ends : goal.returns-in-Ok-clause-ends
+returns-in-Ok-clause-ends g c = c.perform.ensures.ends (record {
+  threads = false;
+  words = bytes_of c.args.words.now;
+  left = g.S.Source.left c.args.source.now;
+  before = g.S.Source.faults c.args.source.now;
+  after = g.S.Source.faults c.read_task.new.source;
+  files = record {
+    entries = g.F.Files.entries c.args.files.now;
+    before = g.F.Files.faults c.args.files.now;
+    after = g.F.Files.faults c.read_task.new.files;
+  };
+}) c.in-Ok.ensures.due
+
+pub returns-in-Err-Error-clause-ends : goal.returns-in-Err-Error-clause-ends
+returns-in-Err-Error-clause-ends g c = c.refuse.ensures.ends (record {
+  threads = false;
+  words = bytes_of c.args.words.now;
+  left = g.S.Source.left c.args.source.now;
+  before = g.S.Source.faults c.args.source.now;
+  after = g.S.Source.faults c.read_task.new.source;
+  files = record {
+    entries = g.F.Files.entries c.args.files.now;
+    before = g.F.Files.faults c.args.files.now;
+    after = g.F.Files.faults c.read_task.new.files;
+  };
+}) (rw c.in-Err-Error.field-0-is at c.in-Err-Error.ensures.due)
+
+-- 2. The laws of runs in a stated order.
+
+pub returns-in-Ok-clause-is_run : goal.returns-in-Ok-clause-is_run
+returns-in-Ok-clause-is_run g c = run_in_order_is_run
+
+pub returns-in-Ok-clause-each : goal.returns-in-Ok-clause-each
+returns-in-Ok-clause-each g c = each_caller_is_done
+
+pub returns-in-Ok-clause-apart : goal.returns-in-Ok-clause-apart
+returns-in-Ok-clause-apart g c = program_is_apart
+
+pub returns-in-Ok-clause-text_order : goal.returns-in-Ok-clause-text_order
+returns-in-Ok-clause-text_order g c = order_of_text
+
+pub returns-in-Ok-clause-fixed : goal.returns-in-Ok-clause-fixed
+returns-in-Ok-clause-fixed g c = run_is_fixed
+
+pub returns-in-Err-Error-clause-is_run : goal.returns-in-Err-Error-clause-is_run
+returns-in-Err-Error-clause-is_run g c = run_in_order_is_run
+
+pub returns-in-Err-Error-clause-each : goal.returns-in-Err-Error-clause-each
+returns-in-Err-Error-clause-each g c = each_caller_is_done
+
+pub returns-in-Err-Error-clause-apart : goal.returns-in-Err-Error-clause-apart
+returns-in-Err-Error-clause-apart g c = program_is_apart
+
+pub returns-in-Err-Error-clause-text_order : goal.returns-in-Err-Error-clause-text_order
+returns-in-Err-Error-clause-text_order g c = order_of_text
+
+pub returns-in-Err-Error-clause-fixed : goal.returns-in-Err-Error-clause-fixed
+returns-in-Err-Error-clause-fixed g c = run_is_fixed
+
+pub returns-in-Err-NoMemory-clause-is_run : goal.returns-in-Err-NoMemory-clause-is_run
+returns-in-Err-NoMemory-clause-is_run g c = run_in_order_is_run
+
+pub returns-in-Err-NoMemory-clause-each : goal.returns-in-Err-NoMemory-clause-each
+returns-in-Err-NoMemory-clause-each g c = each_caller_is_done
+
+pub returns-in-Err-NoMemory-clause-apart : goal.returns-in-Err-NoMemory-clause-apart
+returns-in-Err-NoMemory-clause-apart g c = program_is_apart
+
+pub returns-in-Err-NoMemory-clause-text_order : goal.returns-in-Err-NoMemory-clause-text_order
+returns-in-Err-NoMemory-clause-text_order g c = order_of_text
+
+pub returns-in-Err-NoMemory-clause-fixed : goal.returns-in-Err-NoMemory-clause-fixed
+returns-in-Err-NoMemory-clause-fixed g c = run_is_fixed
