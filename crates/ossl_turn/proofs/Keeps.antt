@@ -1,6 +1,8 @@
 -- Each step of the turn keeps its rule.
 use Rattle.std.proofs.Common.{◌≡◌, ◌≢◌, ◌⊎◌, inl, inr, ⊎_elim, ℕ, zero, suc, ◌+◌, ◌%◌, ◌^◌, ◌<◌, ◌≤◌, List, [], ◌∷◌, ◌++◌, length, set, get_or, true, false, All, Contains, Some, refl, sym, ap, ◌∙◌, subst, arith, append-nil, true≢false, length-set, length-append, le_refl, lit<}
-use Rattle.std.proofs.lemmas.List.Elements.{All-append}
+use Rattle.std.proofs.lemmas.Bool.{eqb-true}
+use Rattle.std.proofs.lemmas.List.Elements.{All-append, filter_passes}
+use Rattle.std.specs.Prelude.{◌==◌}
 use mathlib.Core.Option.{Option, none, some, some-injective, some-ne-none}
 use mathlib.Core.List.{IsPrefix}
 use mathlib.Core.Logic.{dite}
@@ -54,6 +56,10 @@ all_at P xs x all (k, h, e) = subst P e (all k x h)
 no_entry : {A : Type 0} (before : List A) (e : A) (after : List A) → [] ≡ before ++ e ∷ after → ⊥
 no_entry [] e after p = cc
 no_entry (b ∷ bs) e after p = cc
+
+-- no entries are a history
+pub no_history : {C R : Type 0} (follows : List (Entry C R) → Entry C R → Type 0) → IsHistory follows []
+no_history follows before e after p = absurd (no_entry before e after p)
 
 -- the object that a seat holds, or another one
 abbrev pub object_or : {A : Type 0} → A → List (ℕ × A) → A
@@ -339,27 +345,38 @@ module _ {O C R F : Type 0} (history : O → List (Entry C R)) (fixed : O → F)
       (served_nothing f slots id me.0 o k h some_slot live turn same fixed_o)
 
   -- at the opening there is one view, the first
-  opened : (f : O) (o : O) → history o ≡ [] → fixed o ≡ fixed f → (i : ℕ) (v : V) → get_elem? (first_view f ∷ []) i ≡ some v → (i ≡ 0) × (first_view f ≡ v)
-  opened f o a b zero v e = (refl, some-injective (first_view f) v e)
-  opened f o a b (suc i) v e = absurd (some-ne-none v (sym e))
+  opened : (o : O) (i : ℕ) (v : V) → get_elem? (first_view (history o) o ∷ []) i ≡ some v → (i ≡ 0) × (first_view (history o) o ≡ v)
+  opened o zero v e = (refl, some-injective (first_view (history o) o) v e)
+  opened o (suc i) v e = absurd (some-ne-none v (sym e))
+
+  -- a history of the caller 0 alone has no number above 0
+  all_zero : (h : List E) → own_of 0 h ≡ h → All (λ (e : E). e.caller ≤ 0) h
+  all_zero h own k d below =
+      let mine : All (λ (e : E). (e.caller == 0) ≡ true) h = subst (All (λ (e : E). (e.caller == 0) ≡ true)) own (filter_passes (λ (e : E). e.caller == 0) h) in
+      let is : (get_or h k d).caller ≡ 0 = eqb-true (get_or h k d).caller 0 (mine k d below) in
+      omega (arith, is)
 
   -- the rule holds at the opening
-  pub opens : (f : O) (o : O) → history o ≡ [] → fixed o ≡ fixed f → Rule f (opening (0 ∷ 0 ∷ 0 ∷ []) (o ∷ []) (first_view f))
-  opens f o empty fix = record {
-    now = record { log = []; serving = 0; tickets = 0; made = 0; drawn = 0 };
+  pub opens : (o : O) → IsHistory (follows (fixed o)) (history o) → own_of 0 (history o) ≡ history o
+      → Rule o (opening (0 ∷ 0 ∷ 0 ∷ []) (o ∷ []) (first_view (history o) o))
+  opens o lawful own = record {
+    now = now;
     words = refl;
     drawn = (omega arith, omega arith);
     few = lit< tt;
     count = refl;
     queue = refl;
-    each = λ i v there. let e = opened f o empty fix i v there in subst (λ (z : ℕ × V). Knows f record { log = []; serving = 0; tickets = 0; made = 0; drawn = 0 } (first_view f ∷ []) z.0 z.1) (λ j. (sym e.0 j, e.1 j))
-        record { first = λ _. (refl, refl, refl); alive = λ _. (refl, (([], refl), refl), refl); spent = λ _. refl; queues = tt; taken = λ k d h. absurd (omega arith) };
-    apart = λ i j k v w a b x y. let p = opened f o empty fix i v a in let q = opened f o empty fix j w b in p.0 ∙ sym q.0;
+    each = λ i v there. let e = opened o i v there in subst (λ (z : ℕ × V). Knows o now (first_view (history o) o ∷ []) z.0 z.1) (λ j. (sym e.0 j, e.1 j))
+        record { first = λ _. (refl, refl, refl); alive = λ _. (refl, (([], append-nil (history o)), own), refl); spent = λ _. refl; queues = tt; taken = λ k d h. absurd (omega arith) };
+    apart = λ i j k v w a b x y. let p = opened o i v a in let q = opened o j w b in p.0 ∙ sym q.0;
     every = λ k a b. absurd (omega arith);
-    object = λ _. (o, refl, empty, fix);
-    lawful = λ before e after p. absurd (no_entry before e after p);
-    within = λ k d h. absurd (omega arith);
+    object = λ _. (o, refl, refl, refl);
+    lawful = lawful;
+    within = all_zero (history o) own;
   }
+    where
+      now : N
+      now = record { log = history o; serving = 0; tickets = 0; made = 0; drawn = 0 }
 
   -- drawing a number keeps the rule
   pub draws_number : (f : O) (slots id : ℕ) (me : M) → me.0.live ≡ true → me.0.stage ≡ Idle → me.0.claim.number ≡ 0 → me.0.drawn ≡ me.0.made → Allows (Rule f) slots id me 0 (λ n. (n + 1) % 2 ^ 64) (drew_number fixed follows (step slots 0 1 0 none) me)

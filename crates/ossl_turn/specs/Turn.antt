@@ -56,9 +56,9 @@ module _ {C R : Type 0} where
   Queues t (Turn k h) = (k ≡ t.serving) × (k < t.tickets) × (h ≡ t.log)
 
 module _ {C R F : Type 0} where
-  -- the first pass, before any step
-  abbrev pub first_view : F → View C R F
-  first_view f = record { live = true; claim = claim_of 0 [] []; stage = Idle; origin = Some f; made = 0; drawn = 0; taken = [] }
+  -- the first pass, before any step: it has seen the history so far, all of which is its own
+  abbrev pub first_view : List (Entry C R) → F → View C R F
+  first_view h f = record { live = true; claim = claim_of 0 h h; stage = Idle; origin = Some f; made = 0; drawn = 0; taken = [] }
 
   -- the i-th view is v
   abbrev pub IsView : List (View C R F) → ℕ → View C R F → Type 0

@@ -47,5 +47,5 @@ impl<O: Object> TableRule<O, PassView<O>, Snapshot<O>> for Turn<O> {
 
     ghost holds = { λ k. TurnRule O.history O.fixed O.follows k.value };
 
-    ghost first = { λ k. first_view k.value };
+    ghost first = { λ k. first_view (O.history k.value) k.value };
 }

@@ -1,6 +1,6 @@
 //! The object that threads share.
 ghost use Rattle.std.specs.Prelude.{◌≡◌, ◌<◌, [], Some, IfOk, IfErr, OnErr, IsOk, All, length};
-ghost use Rattle.ossl_turn.specs.History.{entry_of, IsHistory};
+ghost use Rattle.ossl_turn.specs.History.{entry_of, own_of, IsHistory};
 ghost use Rattle.ossl_turn.specs.Passes.{CameFrom, MayFind, Answers, HasHistory, IsSplit, AreAll, Confirms};
 
 use crate::kinds::{DrawNumber, NewPass};
@@ -45,6 +45,19 @@ impl<O: Object> Shared<O> {
         requires { O.history object ≡ [] }
         ensures shared { IfOk result (λ r. O.fixed r.0.origin ≡ O.fixed object) }
         ensures first { IfOk result (λ r. CameFrom r.0 r.1 × (r.1.number ≡ 0) × (r.1.made ≡ 0) × (r.1.seen ≡ []) × (r.1.own ≡ [])) }
+        ensures refused { IfErr result (λ r. r.object ≡ object) }
+    {
+        Shared::resume(alloc, object)
+    }
+
+    /// Shares an object that was called before, always under the number 0, and gives the first pass, which has seen its
+    /// history: each call in it is its own.
+    pub fn resume(alloc: Global, object: O) -> Result<(Shared<O>, Pass<O>), ShareRefused<O>>
+        requires lawful { IsHistory (O.follows (O.fixed object)) (O.history object) }
+        requires own { own_of 0 (O.history object) ≡ O.history object }
+        ensures shared { IfOk result (λ r. O.fixed r.0.origin ≡ O.fixed object) }
+        ensures first { IfOk result (λ r. CameFrom r.0 r.1 × (r.1.number ≡ 0) × (r.1.made ≡ 0)) }
+        ensures seen { IfOk result (λ r. (r.1.seen ≡ O.history object) × (r.1.own ≡ O.history object)) }
         ensures refused { IfErr result (λ r. r.object ≡ object) }
     {
         let origin = Snapshot::of(&object);

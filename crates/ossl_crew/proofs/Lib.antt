@@ -1,0 +1,5 @@
+-- Lemmas that several proofs share.
+pub mod CourseLaws
+pub mod CrewLaws
+pub mod HistoryLaws
+pub mod RunLaws
