@@ -48,6 +48,8 @@ fn content_of(name: &[u8]) -> Option<&'static [u8]> {
         b"list.cnf" => Some(LIST),
         b"faulty.cnf" => Some(b"x = 1\nfaulty"),
         b"m.cnf" => Some(b".include m.cnf"),
+        b"my file.cnf" => Some(b"name = legacy\n"),
+        b"parts/sub.cnf" => Some(PARTS),
         b"section.cnf" => Some(b"[s]\nx = 1"),
         b"both.cnf" => Some(b"x = 2\n.include section.cnf\ny = $x"),
         _ => None,
@@ -56,6 +58,13 @@ fn content_of(name: &[u8]) -> Option<&'static [u8]> {
 
 const LIST: &[u8] =
     b"null = off\n[off]\nactivate = 0\ndefault::openssl_conf = init\ninit::providers = p\n";
+
+const PARTS: &[u8] = b"openssl_conf = init\n\
+      init::providers = list\n\
+      list::first = one\n\
+      [one]\n\
+      activate = 1\n\
+      identity = $::name\n";
 
 /// What a text says where the call of this number fails; 0 is none.
 fn answer(alloc: Global, text: &[u8], fail: u64) -> Result<Vec<u8>, AllocError> {
@@ -218,7 +227,7 @@ fn configurations_are_read(rt: HostRuntime) -> Result<(), Fail> {
 // The texts of cases/configuration_included*, and more that include files.
 #[test]
 fn files_are_included(rt: HostRuntime) -> Result<(), Fail> {
-    let rows: [(&[u8], &[u8]); 10] = [
+    let rows: [(&[u8], &[u8]); 11] = [
         (
             b".include sub.cnf\n[openssl_init]\nproviders = p\n[p]\nlegacy = l\n[l]\nactivate = 1\n",
             b"activate legacy\n",
@@ -233,6 +242,10 @@ fn files_are_included(rt: HostRuntime) -> Result<(), Fail> {
         ),
         (
             b"[p]\n.include list.cnf\nlegacy = l\n[l]\nactivate = 1\n",
+            b"activate legacy\n",
+        ),
+        (
+            b"dir = parts\n.include = \"my file.cnf\"\n.include $dir/sub.cnf\n",
             b"activate legacy\n",
         ),
         (b".include m.cnf\n", b"error configuration line 1 depth\n"),
@@ -291,6 +304,20 @@ fn values_have_their_limits(rt: HostRuntime) -> Result<(), Fail> {
         for _ in 0..times {
             text.extend_from_slice(b"\nb = $a")?;
         }
+        assert_eq!(rt; answer(alloc, text.as_slice(), 0)?.as_slice(), line);
+    }
+    Ok(())
+}
+
+#[test]
+fn a_file_fits_into_what_is_left(rt: HostRuntime) -> Result<(), Fail> {
+    let alloc = rt.alloc();
+    for (left, line) in [
+        (9, b"activate\n".as_slice()),
+        (8, b"error limit configuration\n"),
+    ] {
+        let mut text = Vec::from_slice(alloc, b".include section.cnf\n#")?;
+        text.resize(1_048_576 - left, b'x')?;
         assert_eq!(rt; answer(alloc, text.as_slice(), 0)?.as_slice(), line);
     }
     Ok(())
