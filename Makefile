@@ -3,7 +3,7 @@
 # test: the gate: every proof, must-fail edit, test and program, and then the cases
 # check CRATE=NAME: one crate, while you write it
 PROGRAMS = ossl_replay ossl_enc ossl_speed
-INSTALLED = ossl_enc
+INSTALLED = ossl_replay ossl_enc
 PREFIX = /usr/local
 .PHONY: demo build test check install uninstall
 
@@ -17,6 +17,7 @@ test:
 	tools/timed out/test.log rt ci
 	@for name in $(PROGRAMS); do test -x crates/$$name/out/$$name || tools/build $$name || exit 1; done
 	tools/timed out/cases.log cases/run
+	tools/timed out/pages.log cases/pages
 
 check:
 	cd crates/$(CRATE) && rt check
