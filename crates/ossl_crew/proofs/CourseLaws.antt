@@ -10,7 +10,8 @@ use Rattle.ossl_base.specs.declared.entry.Entry.{Entry}
 use Rattle.ossl_calls.specs.Registry.{HasSheets, IsDown}
 use Rattle.ossl_commands.specs.Counts.{callers_of, contexts_of}
 use Rattle.ossl_conf.specs.View.{SettingsView}
-use Rattle.ossl_crew.specs.Crew.{HaveDone, HaveGivenBack}
+use Rattle.ossl_crew.specs.Course.{HaveEnded, IsFinished}
+use Rattle.ossl_crew.specs.Crew.{HaveDone, HaveGivenBack, WereAtWork}
 use Rattle.ossl_ordered.specs.Opened.{IsLoading}
 use Rattle.ossl_ordered.specs.Opening.{IsClosed, IsEnded, IsOpened, activations_of, closing_calls}
 use Rattle.ossl_ordered.specs.Owned.{AreClosed, ClosesBy, Follow, OwnsAll}
@@ -21,6 +22,7 @@ use Rattle.ossl_print.specs.Batched.{Batch}
 use Rattle.ossl_print.specs.Order.{history_number}
 use Rattle.ossl_provider.specs.Members.{is_in}
 use Rattle.ossl_provider.specs.Sheet.{Sheet}
+use Rattle.ossl_script.specs.View.{ScriptCallerView}
 use Rattle.ossl_state.specs.declared.call.Call.{Call}
 use Rattle.ossl_state.specs.declared.call.Reply.{Reply}
 use Rattle.ossl_state.specs.History.{Fixed, IsLegal}
@@ -68,6 +70,19 @@ finished_run settings batch contexts tokens opening before after few answered op
   done = λ c some within. subst (λ n. IsDone batch c (entries_of n did.middle)) (sym (own_number batch c some within)) (did.done c some within);
   others = λ c outside. did.others c (outside_of (callers_of batch.lines) c outside);
   closed = subst (λ n. IsClosed n opening adds.added) (sym few) (closed_by contexts tokens opening before after answered adds);
+}
+
+-- and what each caller is then, behind it
+pub finished : (P : Type 0) (settings : SettingsView) (batch : Batch) (contexts : ℕ) (tokens : List ℕ)
+    (opening before after : List (Entry Call Reply)) (scripts : List ScriptCallerView)
+    → contexts_of batch.lines ≡ contexts → tokens ≡ activations_of opening → IsOpened settings opening
+    → HaveEnded P batch opening before scripts → ClosesBy contexts tokens before after
+    → IsFinished P settings batch after scripts
+unfolding finished_run
+finished P settings batch contexts tokens opening before after scripts few answered opened all adds = record {
+  run = finished_run settings batch contexts tokens opening before after few answered opened all.done adds;
+  ended = all.ended;
+  worked = subst (λ es. WereAtWork P batch opening es scripts) all.done.parts all.worked;
 }
 
 -- a run whose opening was refused

@@ -8,7 +8,7 @@ mod crew;
 mod running;
 mod unshared;
 
-pub use course::run_callers;
+pub use course::{Course, run_callers, run_course};
 pub use crew::Crew;
 pub use running::{Back, run_crew};
 pub use unshared::Unshared;

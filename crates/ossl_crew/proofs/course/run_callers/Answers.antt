@@ -2,7 +2,8 @@ use Rattle.std.proofs.Common.{◌≡◌, List, length, sym, ap, subst, ◌∙◌
 use Rattle.ossl_base.specs.declared.entry.Entry.{Entry}
 use Rattle.ossl_calls.specs.Registry.{Shown}
 use Rattle.ossl_commands.specs.Counts.{callers_of, contexts_of}
-use Rattle.ossl_crew.specs.Crew.{HaveDone, HaveGivenBack}
+use Rattle.ossl_crew.specs.Course.{HaveEnded}
+use Rattle.ossl_crew.specs.Crew.{HaveGivenBack}
 use Rattle.ossl_crew.proofs.CourseLaws.{gave_nothing}
 use Rattle.ossl_state.specs.declared.call.Call.{Call}
 use Rattle.ossl_state.specs.declared.call.Reply.{Reply}
@@ -16,8 +17,10 @@ returns-in-true-clause-done g c batch of =
     let few : contexts_of batch.lines ≡ c.args.registry.contexts = of.few in
     let each : length c.args.crew.scripts.items ≡ callers_of batch.lines = of.each in
     let did = c.in-Ok.ensures.done c.in-true.is batch (omega (arith, few, same)) of.are (omega (arith, each, c.args.crew.scripts.ok.0)) in
-    subst (λ (z : List (Entry Call Reply) × List (Entry Call Reply)). HaveDone batch z.0 z.1)
-    (λ i. (ap (λ (r : Shown g.row.P.Denot). r.entries) was i, ap (λ (r : Shown g.row.P.Denot). r.entries) (sym now) i)) did
+    let worked = c.in-Ok.ensures.worked batch (omega (arith, few, same)) of.are in
+    subst (λ (z : List (Entry Call Reply) × List (Entry Call Reply)). HaveEnded g.row.P.Denot batch z.0 z.1 c.in-Ok.back.scripts.items)
+    (λ i. (ap (λ (r : Shown g.row.P.Denot). r.entries) was i, ap (λ (r : Shown g.row.P.Denot). r.entries) (sym now) i))
+    (record { done = did; ended = c.in-Ok.ensures.ended c.in-true.is; worked = worked })
 
 pub returns-in-Err-clause-gave_back : goal.returns-in-Err-clause-gave_back
 returns-in-Err-clause-gave_back g c =
