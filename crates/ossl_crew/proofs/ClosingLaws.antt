@@ -36,8 +36,9 @@ came_ended P contexts scripts opening entries opened u r left went is all =
 
 -- behind the closing no box is up, for a registry for which nothing has changed that never changes
 pub down_after : (fixed : Fixed) (tokens : List ℕ) (opening before : List (Entry Call Reply))
-    → IsLoading fixed opening tokens → HaveGivenBack opening before → (now : Fixed) (contexts : ℕ) (after : List (Entry Call Reply)) → now ≡ fixed
-    → contexts ≡ fixed.contexts → (closing : List (Entry Call Reply)) × Follow before after closing
+    → IsLoading fixed opening tokens → HaveGivenBack opening before
+    → (now : Fixed) (contexts : ℕ) (after : List (Entry Call Reply)) → now ≡ fixed → contexts ≡ fixed.contexts
+    → (closing : List (Entry Call Reply)) × Follow before after closing
     → IsLegal now after → AreClosed contexts now after
     → (sheets : List Sheet) → HasSheets now sheets after → All IsDown sheets
 down_after fixed tokens opening before loading back now contexts after same count follow legal closed sheets kept =

@@ -114,8 +114,8 @@ fn proceed<R: Threads + Wait + Sync, P: Provider + Send, L: Ledger, G: Gate>(
     }
 }
 
-/// Runs a batch over a registry that was just opened: the opening, the work of all callers, each in a thread of its own,
-/// and the closing. Whatever the result, what was opened is closed then, and no box is up.
+/// Runs a batch over a registry that was just opened: the opening, the work of all callers, each in a thread of its
+/// own, and the closing. Whatever the result, what was opened is closed then, and no box is up.
 pub fn run_course<R: Threads + Wait + Sync, P: Provider + Send, L: Ledger, G: Gate>(
     rt: &R,
     alloc: Global,
