@@ -1,7 +1,7 @@
 -- What the closing of a run leaves: no box is up, and a run that is finished or was refused.
 use Rattle.std.proofs.Common.{◌≡◌, ℕ, ◌-◌, ◌<◌, ◌≤◌, false, nat_eq, List, [], ◌++◌, Global, Vec, length, map}
 use Rattle.std.proofs.Common.{refl, sym, ◌∙◌, ap, subst, arith}
-use Rattle.std.specs.Prelude.{All, Err, IfOk, Ok, Result, Some, slice_index_or}
+use Rattle.std.specs.Prelude.{All, Err, IfOk, Ok, Result, slice_index_or}
 use Rattle.std.specs.Result.{IsOkAnd, MatchResult}
 use Rattle.std.specs.declared.alloc.AllocError.{AllocError}
 use Rattle.std.proofs.lemmas.Bool.{ne_eqb}
@@ -24,15 +24,15 @@ use Rattle.ossl_ordered.specs.declared.opening.OpeningRefused.TheVariants.{Provi
 use Rattle.ossl_ordered.specs.Opened.{EndsOpening, IsLoading}
 use Rattle.ossl_ordered.specs.Owned.{AreClosed, ClosesBy, Follow}
 use Rattle.ossl_ordered.specs.Run.{own_numbers}
-use Rattle.ossl_ordered.specs.Turns.{IsRefusedRun}
+use Rattle.ossl_ordered.specs.Turns.{IsRefusedRun, IsRunInOrder}
 use Rattle.ossl_ordered.proofs.DoneLaws.{none_of, parts_of}
 use Rattle.ossl_ordered.proofs.RunLaws.{all_down}
 use Rattle.ossl_print.specs.Batched.{Batch, replies_of, replies_to, results_of}
 use Rattle.ossl_print.specs.Order.{history_number}
-use Rattle.ossl_run.specs.Ending.{Boxes, IsLeft, batch_of, registry_over}
+use Rattle.ossl_run.specs.Ending.{batch_of}
 use Rattle.ossl_run.specs.declared.course.Course.{Course}
 use Rattle.ossl_run.specs.declared.course.Course.TheVariants.{Finished, Refused}
-use Rattle.ossl_run.specs.Middle.{DidAll, GaveBack, IsCourse, IsDone, IsRan}
+use Rattle.ossl_run.specs.Middle.{DidAll, GaveBack, HasResults, IsCourse}
 use Rattle.ossl_run.proofs.CallerLaws.{own_number}
 
 -- 1. What is up.
@@ -109,19 +109,21 @@ module _ (task : Task) (results : List (List LineResult)) (tokens : List ℕ)
       ∙ parts_of c opening did.turns did.returning adds.added before_it behind_it
       ∙ sym (filter-append (λ (e : Entry Call Reply). nat_eq e.caller c) did.turns did.returning)
 
-  is_done : IsDone task results after
-  is_done = record {
-    run = record {
-      opening = opening;
-      turns = did.turns;
-      returning = did.returning;
-      closing = adds.added;
-      parts = parts;
-      opened = opened;
-      in_turn = did.in_turn;
-      returned = did.returned;
-      closed = closed_by (contexts_of task.prepared.script.commands) tokens opening before after answered adds;
-    };
+  in_order : IsRunInOrder task.prepared.settings (batch_of task.prepared) (order_of task.job) after
+  in_order = record {
+    opening = opening;
+    turns = did.turns;
+    returning = did.returning;
+    closing = adds.added;
+    parts = parts;
+    opened = opened;
+    in_turn = did.in_turn;
+    returned = did.returned;
+    closed = closed_by (contexts_of task.prepared.script.commands) tokens opening before after answered adds;
+  }
+
+  has_results : HasResults task results after
+  has_results = record {
     each = did.each;
     are_results = λ c some few.
         did.are_results c some few ∙ ap (results_of batch c) (same c some (omega (arith, few, did.each)));
@@ -155,42 +157,23 @@ module _ (task : Task) (contexts : ℕ) (settings : SettingsView) (tokens : List
       → IfOk r (λ results. DidAll (batch_of task.prepared) (order_of task.job) opening before
       (map (λ (rs : Vec LineResult Global). rs.items) results.items))
       → MatchResult r (λ results. IsOkAnd course (λ made. made ≡ Finished results)) (λ e. course ≡ Err e)
-      → IfOk course (λ course. IsCourse course task after)
+      → IfOk course (λ course. IsCourse false course task after)
   finished_course opened (Ok results) (Ok course) did made =
       let all = map (λ (rs : Vec LineResult Global). rs.items) results.items in
       let begun = subst (λ s. IsOpened s opening) same opened in
-      subst (λ course. IsCourse course task after) (sym made)
-      (is_done task all tokens opening before after answered begun did adds_all)
+      subst (λ course. IsCourse false course task after) (sym made) (
+        in_order task all tokens opening before after answered begun did adds_all,
+        has_results task all tokens opening before after answered begun did adds_all,
+      )
   finished_course opened (Ok results) (Err e) did made = absurd made
   finished_course opened (Err e) course did made =
-      subst (λ r. IfOk r (λ course. IsCourse course task after)) (sym made) tt
+      subst (λ r. IfOk r (λ course. IsCourse false course task after)) (sym made) tt
 
   pub refused_course : (name : List ℕ) → before ≡ opening → EndsOpening settings opening (Provider name)
-      → IsCourse (Refused name) task after
+      → IsCourse false (Refused name) task after
   refused_course name nothing ended =
       let contexts_all = contexts_of task.prepared.script.commands in
       refused_run task.prepared.settings (batch_of task.prepared) name tokens opening after answered
       (subst (λ s. IsEnded s opening) same ended.0)
       (ended.1 ∙ ap (λ (s : SettingsView). slice_index_or s.activations (length opening - 1) []) same)
       (subst (λ es. ClosesBy contexts_all tokens es after) nothing adds_all)
-
--- what a run over boxes leaves and came to, where the registry was opened over them
-pub ran_over : (task : Task) (boxes : Boxes) (fixed : Fixed) (result : Result Course AllocError)
-    (entries : List (Entry Call Reply))
-    → fixed ≡ registry_over boxes (contexts_of task.prepared.script.commands) → IsLegal fixed entries
-    → HasSheets fixed boxes.after entries
-    → ((sheets : List Sheet) → HasSheets fixed sheets entries → All IsDown sheets)
-    → IfOk result (λ course. IsCourse course task entries) → IsRan (Some result) task boxes entries
-ran_over task boxes fixed result entries same legal kept down came = of result came
-  where
-    left : IsLeft boxes (contexts_of task.prepared.script.commands) entries
-    left = record {
-      legal = subst (λ f. IsLegal f entries) same legal;
-      sheets = subst (λ f. HasSheets f boxes.after entries) same kept;
-      down = down boxes.after kept;
-    }
-
-    of : (result : Result Course AllocError) → IfOk result (λ course. IsCourse course task entries)
-        → IsRan (Some result) task boxes entries
-    of (Ok course) came = (left, came)
-    of (Err e) came = left

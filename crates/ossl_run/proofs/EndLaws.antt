@@ -46,7 +46,7 @@ module _ (inputs : Inputs) (boxes : Boxes) (sunk : Sunk) (status : ℕ) (entries
   -- a run that is due
   pub run_ends : (task : Task) (answer : Result Answer AllocError) → IsDueRun inputs (Ok task)
       → IsLeft boxes (contexts_of task.prepared.script.commands) entries
-      → IsToldOf task boxes.facts entries answer callers
+      → IsToldOf inputs.threads task boxes.facts entries answer callers
       → Sends sunk answer status → Ends inputs boxes sunk status entries callers
   run_ends task (Err e) due left told (nine, none) =
       inr (nine, none, inr (record { task = task; due = due; named = told; left = left }))

@@ -1,9 +1,10 @@
 -- Lemmas that several proofs share.
 mod ListLaws
-mod DueLaws
-mod EndLaws
-mod TextLaws
-mod CallerLaws
+pub mod DueLaws
+pub mod EndLaws
+pub mod RanLaws
+pub mod TextLaws
+pub mod CallerLaws
 mod CourseLaws
 mod ClosingLaws
 mod SummedLaws

@@ -1,5 +1,5 @@
 -- What a top call leaves, and how it ends: an error line, an opening that is refused, a finished run, or want of memory.
-use Rattle.std.specs.Prelude.{ℕ, ◌≡◌, ◌⊎◌, All, Ok, Err, Option, None, List, [], count_by, length, map, sum_by}
+use Rattle.std.specs.Prelude.{ℕ, ◌≡◌, ◌⊎◌, All, Bool, true, false, Ok, Err, Option, None, List, [], count_by, length, map, sum_by}
 use Rattle.std.specs.Io.KnownBytes.{Appends}
 use Rattle.ossl_base.specs.declared.entry.Entry.{Entry}
 use Rattle.ossl_base.specs.Causes.{Rose}
@@ -27,7 +27,7 @@ use Rattle.ossl_prepare.specs.declared.reading.Task.{Task}
 use Rattle.ossl_prepare.specs.ErrorLine.{error_status, error_text}
 use Rattle.ossl_prepare.specs.Task.{Inputs, IsDueRun, order_of}
 use Rattle.ossl_prepare.specs.View.{PreparedView}
-use Rattle.ossl_ordered.specs.Run.{own_numbers}
+use Rattle.ossl_ordered.specs.Run.{IsRun, own_numbers}
 use Rattle.ossl_ordered.specs.Turns.{IsRefusedRun, IsRunInOrder}
 
 -- 1. The boxes.
@@ -121,21 +121,27 @@ pub record IsRefusedOpening (task : Task) (ending : Ending) : Type 0 where
   pub text : ending.text ≡ error_text (Provider name)
   pub callers : ending.callers ≡ []
 
--- a finished run of a task, in its stated order
-pub record IsFinishedRun (task : Task) (facts : List Facts) (ending : Ending) : Type 0 where
-  pub run : IsRunInOrder task.prepared.settings (batch_of task.prepared) (order_of task.job) ending.entries
+-- the entries of a finished run of a task: in its stated order; or, where the callers have threads, each caller's under its own number
+abbrev pub IsRunBy : Bool → Task → List (Entry Call Reply) → Type 0
+IsRunBy false task entries = IsRunInOrder task.prepared.settings (batch_of task.prepared) (order_of task.job) entries
+IsRunBy true task entries =
+    IsRun task.prepared.settings (batch_of task.prepared) (own_numbers (batch_of task.prepared)) entries
+
+-- a finished run of a task, by a program with threads or one without
+pub record IsFinishedRun (threads : Bool) (task : Task) (facts : List Facts) (ending : Ending) : Type 0 where
+  pub run : IsRunBy threads task ending.entries
   pub status : ending.status ≡ 0
   pub text : ending.text ≡ text_of task.job facts (batch_of task.prepared) ending.entries
   pub callers : ending.callers ≡ own_numbers (batch_of task.prepared)
 
-abbrev pub IsAnswered : Task → List Facts → Ending → Type 0
-IsAnswered task facts ending = IsRefusedOpening task ending ⊎ IsFinishedRun task facts ending
+abbrev pub IsAnswered : Bool → Task → List Facts → Ending → Type 0
+IsAnswered threads task facts ending = IsRefusedOpening task ending ⊎ IsFinishedRun threads task facts ending
 
 -- the words, the batch, the files and the configuration are in order, and this is how their run ends
 pub record IsRunDue (inputs : Inputs) (boxes : Boxes) (ending : Ending) : Type 0 where
   pub task : Task
   pub due : IsDueRun inputs (Ok task)
-  pub answered : IsAnswered task boxes.facts ending
+  pub answered : IsAnswered inputs.threads task boxes.facts ending
   pub left : IsLeft boxes (contexts_of task.prepared.script.commands) ending.entries
 
 abbrev pub IsEnding : Inputs → Boxes → Ending → Type 0

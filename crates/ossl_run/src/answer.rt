@@ -1,12 +1,12 @@
 //! What a call writes.
 
-ghost use Rattle.std.specs.Prelude.{◌≡◌, IfOk, map};
+ghost use Rattle.std.specs.Prelude.{◌≡◌, Bool, IfOk, map};
 ghost use Rattle.ossl_prepare.specs.ErrorLine.{error_status, error_text};
 ghost use Rattle.ossl_commands.specs.Counts.{contexts_of};
 ghost use Rattle.ossl_ordered.specs.Run.{own_numbers};
 ghost use Rattle.ossl_watch.specs.Changes.{IsHistory};
 ghost use Rattle.ossl_run.specs.Ending.{batch_of, text_of};
-ghost use Rattle.ossl_run.specs.Middle.{IsCourse, IsDone, IsToldOf, Sends};
+ghost use Rattle.ossl_run.specs.Middle.{HasResults, IsCourse, IsToldOf, Sends};
 
 use crate::course::Course;
 use crate::output::{Finished, output_of};
@@ -17,15 +17,18 @@ use ossl_provider::provider::Provider;
 use ossl_state::call::Entry;
 use std::alloc::{AllocError, Global};
 
-/// The status of a failed write, and that of want of memory.
+/// The status of a failed write.
 const WRITE_FAILED: u8 = 4;
 
+/// The status of want of memory.
 pub const NO_MEMORY: u8 = 9;
 
-/// What is to be written, with the status of the call once it is.
+/// What a call answers.
 #[derive(Drop)]
 pub struct Answer {
+    /// The status with which the program ends once the text is written.
     pub status: u8,
+    /// What is to be written.
     pub text: Vec<u8>,
 }
 
@@ -44,7 +47,7 @@ pub fn error_answer(alloc: Global, error: &ErrorLine) -> Result<Answer, AllocErr
 /// The output of a finished run, as an answer.
 fn finished_answer<P: Provider>(alloc: Global, run: &Finished<P>) -> Result<Answer, AllocError>
     requires legal { IsHistory (map P.facts run.now.catalogue.now) (contexts_of run.now.task.now.prepared.script.commands) run.now.history.now }
-    requires done { IsDone run.now.task.now (map (λ rs. rs.items) run.now.results.now) run.now.history.now }
+    requires results { HasResults run.now.task.now (map (λ rs. rs.items) run.now.results.now) run.now.history.now }
     requires callers { run.now.callers.now ≡ own_numbers (batch_of run.now.task.now.prepared) }
     ensures status { IfOk result (λ answer. answer.status ≡ 0) }
     ensures text { IfOk result (λ answer. answer.text.items
@@ -64,9 +67,10 @@ pub fn course_answer<P: Provider>(
     course: Result<Course, AllocError>,
 ) -> (Result<Answer, AllocError>, Vec<u64>)
     requires legal { IsHistory (map P.facts catalogue.now) (contexts_of task.now.prepared.script.commands) history.now }
-    requires course { IfOk course (λ course. IsCourse course task.now history.now) }
+    requires course { (threads : Bool) × IfOk course (λ course. IsCourse threads course task.now history.now) }
     requires callers { callers.items ≡ own_numbers (batch_of task.now.prepared) }
-    ensures told { IsToldOf task.now (map P.facts catalogue.now) history.now result.0 result.1.items }
+    ensures told { (threads : Bool) → IfOk course (λ course. IsCourse threads course task.now history.now) →
+        IsToldOf threads task.now (map P.facts catalogue.now) history.now result.0 result.1.items }
 {
     match course {
         Ok(Course::Finished(results)) => {

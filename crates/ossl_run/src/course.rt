@@ -1,6 +1,6 @@
 //! The course of a run over a registry.
 
-ghost use Rattle.std.specs.Prelude.{◌≡◌, ◌≤◌, All, [], List, map, IfOk};
+ghost use Rattle.std.specs.Prelude.{◌≡◌, ◌≤◌, All, [], List, false, map, IfOk};
 ghost use Rattle.ossl_calls.specs.Registry.{HasSheets, IsDown, fixed_of};
 ghost use Rattle.ossl_commands.specs.Counts.{contexts_of};
 ghost use Rattle.ossl_prepare.specs.Task.{order_of};
@@ -74,7 +74,7 @@ pub fn run_task<P: Provider, L: Ledger>(
     requires runnable { IsRunnable task.now.prepared.script }
     requires contexts { contexts_of task.now.prepared.script.commands ≡ (fixed_of P.facts desk.old).contexts }
     requires fresh { desk.old.entries ≡ [] }
-    ensures course { IfOk result (λ course. IsCourse course task.now desk.new.entries) }
+    ensures course { IfOk result (λ course. IsCourse false course task.now desk.new.entries) }
     ensures down { (sheets : List Sheet) → HasSheets (fixed_of P.facts desk.new) sheets desk.new.entries → All IsDown sheets }
     ensures legal { IsLegal (fixed_of P.facts desk.new) desk.new.entries }
     ensures fixed { fixed_of P.facts desk.new ≡ fixed_of P.facts desk.old }

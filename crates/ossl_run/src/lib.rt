@@ -10,5 +10,8 @@ mod output;
 mod running;
 mod top_call;
 
+pub use answer::{Answer, NO_MEMORY, course_answer, error_answer, send};
+pub use course::Course;
 pub use outcome::Outcome;
-pub use top_call::replay;
+pub use running::Ran;
+pub use top_call::{own_callers, refuse, replay, untouched};

@@ -7,7 +7,7 @@ ghost use Rattle.ossl_print.specs.Output.{printed_batch};
 ghost use Rattle.ossl_ordered.specs.Run.{own_numbers};
 ghost use Rattle.ossl_watch.specs.Changes.{IsHistory, fixed_over};
 ghost use Rattle.ossl_run.specs.Ending.{batch_of, good_among, summary_after, text_of};
-ghost use Rattle.ossl_run.specs.Middle.{IsDone};
+ghost use Rattle.ossl_run.specs.Middle.{HasResults};
 
 use ossl_generate::{Summary, is_good, summary_text};
 use ossl_prepare::Task;
@@ -33,7 +33,7 @@ pub struct Finished<'a, P: Provider> {
 /// The order and the results of a batch that was read.
 fn printed<P: Provider>(alloc: Global, run: &Finished<P>) -> Result<Vec<u8>, AllocError>
     requires legal { IsHistory (map P.facts run.now.catalogue.now) (contexts_of run.now.task.now.prepared.script.commands) run.now.history.now }
-    requires done { IsDone run.now.task.now (map (λ rs. rs.items) run.now.results.now) run.now.history.now }
+    requires results { HasResults run.now.task.now (map (λ rs. rs.items) run.now.results.now) run.now.history.now }
     requires callers { run.now.callers.now ≡ own_numbers (batch_of run.now.task.now.prepared) }
     ensures text { let batch = batch_of run.now.task.now.prepared in
         let fixed = fixed_over (map P.facts run.now.catalogue.now) (contexts_of batch.lines) in
@@ -84,7 +84,7 @@ fn summed<P: Provider>(
     run: &Finished<P>,
     mut told: Summary,
 ) -> Result<Vec<u8>, AllocError>
-    requires done { IsDone run.now.task.now (map (λ rs. rs.items) run.now.results.now) run.now.history.now }
+    requires results { HasResults run.now.task.now (map (λ rs. rs.items) run.now.results.now) run.now.history.now }
     ensures text { let batch = batch_of run.now.task.now.prepared in
         IfOk result (λ text. text.items ≡ summary_after batch run.now.history.now told) }
 {
@@ -103,7 +103,7 @@ fn summed<P: Provider>(
 /// What a finished run writes: its order and its results, or the summary of a generated batch.
 pub fn output_of<P: Provider>(alloc: Global, run: &Finished<P>) -> Result<Vec<u8>, AllocError>
     requires legal { IsHistory (map P.facts run.now.catalogue.now) (contexts_of run.now.task.now.prepared.script.commands) run.now.history.now }
-    requires done { IsDone run.now.task.now (map (λ rs. rs.items) run.now.results.now) run.now.history.now }
+    requires results { HasResults run.now.task.now (map (λ rs. rs.items) run.now.results.now) run.now.history.now }
     requires callers { run.now.callers.now ≡ own_numbers (batch_of run.now.task.now.prepared) }
     ensures text { IfOk result (λ text. text.items
         ≡ text_of run.now.task.now.job (map P.facts run.now.catalogue.now) (batch_of run.now.task.now.prepared) run.now.history.now) }

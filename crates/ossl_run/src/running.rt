@@ -1,6 +1,6 @@
 //! A run over a catalogue of boxes.
 
-ghost use Rattle.std.specs.Prelude.{◌≡◌, ◌<◌, map};
+ghost use Rattle.std.specs.Prelude.{◌≡◌, ◌<◌, false, map};
 ghost use Rattle.ossl_calls.specs.Registry.{IsCatalogue};
 ghost use Rattle.ossl_commands.specs.Counts.{contexts_of};
 ghost use Rattle.ossl_run.specs.Ending.{boxes_of};
@@ -14,11 +14,14 @@ use ossl_state::call::Entry;
 use std::alloc::{AllocError, Global};
 use std::sync::ledger::{Blank, Ledger};
 
-/// What a run leaves, and what it came to; none where no registry was opened, for want of memory.
+/// What a run leaves, and what it came to.
 #[derive(Drop)]
 pub struct Ran<P: Provider> {
+    /// The registry's history, empty where none was opened.
     pub history: Vec<Entry>,
+    /// The boxes that were handed in, in their order.
     pub catalogue: Vec<P>,
+    /// What the run came to; none where no registry was opened, for want of memory.
     pub course: Option<Result<Course, AllocError>>,
 }
 
@@ -34,7 +37,7 @@ pub fn run_over<P: Provider, L: Ledger>(
     requires some { 0 < L.parts }
     requires catalogue { IsCatalogue (map P.facts catalogue.items) (map P.sheet catalogue.items) }
     requires runnable { IsRunnable task.now.prepared.script }
-    ensures ran { IsRan result.course task.now (boxes_of P.facts P.sheet catalogue.items result.catalogue.items) result.history.items }
+    ensures ran { IsRan false result.course task.now (boxes_of P.facts P.sheet catalogue.items result.catalogue.items) result.history.items }
     ensures facts { map P.facts result.catalogue.items ≡ map P.facts catalogue.items }
 {
     let contexts = task.prepared.script().contexts();

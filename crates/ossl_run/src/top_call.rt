@@ -22,7 +22,7 @@ use std::sync::ledger::{Blank, Ledger};
 
 /// The numbers of the callers of a batch, each its own.
 #[tactic(auto, using(crate::proofs::ListLaws::own_more))]
-fn own_callers(alloc: Global, task: &Task) -> Result<Vec<u64>, AllocError>
+pub fn own_callers(alloc: Global, task: &Task) -> Result<Vec<u64>, AllocError>
     ensures callers { IfOk result (λ callers. callers.items ≡ own_numbers (batch_of task.now.prepared)) }
 {
     let mut callers = Vec::new(alloc);
@@ -33,7 +33,7 @@ fn own_callers(alloc: Global, task: &Task) -> Result<Vec<u64>, AllocError>
 }
 
 /// The boxes as they came, where no registry was opened.
-fn untouched<P: Provider>(alloc: Global, status: u8, catalogue: Vec<P>) -> Outcome<P>
+pub fn untouched<P: Provider>(alloc: Global, status: u8, catalogue: Vec<P>) -> Outcome<P>
     ensures status { result.status ≡ status }
     ensures history { result.history.items ≡ [] }
     ensures callers { result.callers.items ≡ [] }
@@ -48,7 +48,7 @@ fn untouched<P: Provider>(alloc: Global, status: u8, catalogue: Vec<P>) -> Outco
 }
 
 /// Writes an error line, and hands the boxes back as they came.
-fn refuse<P: Provider, K: Sink>(
+pub fn refuse<P: Provider, K: Sink>(
     alloc: Global,
     sink: &mut K,
     error: &ErrorLine,
@@ -78,7 +78,7 @@ fn perform<P: Provider, L: Ledger, K: Sink>(
     requires some { 0 < L.parts }
     requires catalogue { IsCatalogue (map P.facts catalogue.items) (map P.sheet catalogue.items) }
     requires due { (inputs : Inputs) × IsDueRun inputs (Ok task.now) }
-    ensures ends { (inputs : Inputs) → IsDueRun inputs (Ok task.now) →
+    ensures ends { (inputs : Inputs) → inputs.threads ≡ false → IsDueRun inputs (Ok task.now) →
         Ends inputs (boxes_of P.facts P.sheet catalogue.items result.catalogue.items)
         (record { taken = K.taken sink.old; now = K.taken sink.new; faults = K.faults sink.old; faults_now = K.faults sink.new })
         result.status result.history.items result.callers.items }

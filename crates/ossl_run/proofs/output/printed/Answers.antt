@@ -53,7 +53,7 @@ returns g c =
     c.contexts.ensures.contexts ∙ ap (λ s. contexts_of s.commands) c.script-script.ensures.script in
     let are =
     are_at_hand batch c.commands.result.now run.callers.now run.history.now lists
-    lines_are c.requires.callers c.requires.done.are_results in
+    lines_are c.requires.callers c.requires.results.are_results in
     record {
       text =
           printed_at_hand facts batch c.commands.result.now c.contexts.result run.callers.now run.history.now _ _

@@ -36,17 +36,17 @@ returns g c =
     let lists = map (λ (rs : Vec LineResult Global). rs.items) run.results.now in
     let lines_are : c.commands.result.now ≡ batch.lines =
     c.commands.ensures.commands ∙ ap (λ s. s.commands) c.script.ensures.script in
-    let done = c.requires.done in
+    let has = c.requires.results in
     let good : c.good_count.result ≡ capped (good_after batch entries) =
     c.good_count.ensures.good
     ∙ ap capped (
-    sum_items good_among run.results.now ∙ good_are batch entries lists done.are_results done.each) in
+    sum_items good_among run.results.now ∙ good_are batch entries lists has.are_results has.each) in
     let printed : c.as_slice.result.now ≡ told_after batch entries =
     c.as_slice.ensures.value
     ∙ c.in_ok-put_results.ensures.ok
     ∙ ap (λ o. o ++ results_text (results_by c.commands.result.now (told_to lists))) c.new-printed.ensures.items
     ∙ ap (λ ls. results_text (results_by ls (told_to lists))) lines_are
-    ∙ ap results_text (results_are batch entries lists done.are_results done.each done.told) in
+    ∙ ap results_text (results_are batch entries lists has.are_results has.each has.told) in
     record {
       text = subst (λ (t : List ℕ). IfOk c.summary_text.result (λ text. text.items ≡ t))
           (summed_at_hand batch entries c.args.told c.good_count.result _ c.as_slice.result.now good refl printed)

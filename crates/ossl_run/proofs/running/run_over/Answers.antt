@@ -1,9 +1,9 @@
-use Rattle.std.proofs.Common.{◌≡◌, ◌∙◌, ap}
+use Rattle.std.proofs.Common.{◌≡◌, ◌∙◌, ap, false}
 use Rattle.ossl_calls.specs.Registry.{fixed_of}
 use Rattle.ossl_commands.specs.Counts.{contexts_of}
 use Rattle.ossl_commands.specs.View.{ScriptView}
 use Rattle.ossl_run.specs.Ending.{boxes_of, registry_over}
-use Rattle.ossl_run.proofs.ClosingLaws.{ran_over}
+use Rattle.ossl_run.proofs.RanLaws.{ran_over}
 use Rattle.ossl_run.proofs.running.run_over.Goals as goal
 
 pub returns-clause-ran : goal.returns-clause-ran
@@ -18,5 +18,5 @@ returns-clause-ran g c =
     c.run_task-course.ensures.fixed ∙ ap fixed c.in-Ok.ensures.ok ∙ ap (registry_over boxes) count in
     let close = c.close-history.ensures in
     rw (close.entries, close.boxes)
-    (ran_over task boxes (fixed desk) c.run_task-course.result desk.entries same close.legal close.sheets
+    (ran_over false task boxes (fixed desk) c.run_task-course.result desk.entries same close.legal close.sheets
     c.run_task-course.ensures.down c.run_task-course.ensures.course)

@@ -1,4 +1,4 @@
-use Rattle.std.proofs.Common.{false}
+use Rattle.std.proofs.Common.{false, refl}
 use Rattle.ossl_words.specs.Commands.{bytes_of}
 use Rattle.ossl_ordered.proofs.DoneLaws.{each_caller_is_done, program_is_apart}
 use Rattle.ossl_ordered.proofs.FixedLaws.{run_is_fixed}
@@ -20,7 +20,7 @@ returns-in-Ok-clause-ends g c = c.perform.ensures.ends (record {
     before = g.F.Files.faults c.args.files.now;
     after = g.F.Files.faults c.read_task.new.files;
   };
-}) c.in-Ok.ensures.due
+}) refl c.in-Ok.ensures.due
 
 pub returns-in-Err-Error-clause-ends : goal.returns-in-Err-Error-clause-ends
 returns-in-Err-Error-clause-ends g c = c.refuse.ensures.ends (record {
