@@ -84,7 +84,8 @@ module _ (threads : Bool) (task : Task) (boxes : Boxes) (entries : List (Entry C
           of (Err e) did = tt
 
       pub told_behind : (answer : Result Answer AllocError) (callers : List ℕ)
-          → IsToldOf threads task facts history answer callers → IsToldOf threads task boxes.facts entries answer callers
+          → IsToldOf threads task facts history answer callers
+          → IsToldOf threads task boxes.facts entries answer callers
       told_behind answer callers told =
           subst (λ fs. IsToldOf threads task fs entries answer callers) facts_are
           (subst (λ es. IsToldOf threads task facts es answer callers) history_is told)

@@ -1,5 +1,6 @@
 -- What a top call leaves, and how it ends: an error line, an opening that is refused, a finished run, or want of memory.
-use Rattle.std.specs.Prelude.{ℕ, ◌≡◌, ◌⊎◌, All, Bool, true, false, Ok, Err, Option, None, List, [], count_by, length, map, sum_by}
+use Rattle.std.specs.Prelude.{ℕ, ◌≡◌, ◌⊎◌, All, Bool, true, false, Ok, Err, Option, None, List, []}
+use Rattle.std.specs.Prelude.{count_by, length, map, sum_by}
 use Rattle.std.specs.Io.KnownBytes.{Appends}
 use Rattle.ossl_base.specs.declared.entry.Entry.{Entry}
 use Rattle.ossl_base.specs.Causes.{Rose}
@@ -121,7 +122,7 @@ pub record IsRefusedOpening (task : Task) (ending : Ending) : Type 0 where
   pub text : ending.text ≡ error_text (Provider name)
   pub callers : ending.callers ≡ []
 
--- the entries of a finished run of a task: in its stated order; or, where the callers have threads, each caller's under its own number
+-- the entries of a finished run: in the order that the task states; or, of callers in threads, by their own numbers
 abbrev pub IsRunBy : Bool → Task → List (Entry Call Reply) → Type 0
 IsRunBy false task entries = IsRunInOrder task.prepared.settings (batch_of task.prepared) (order_of task.job) entries
 IsRunBy true task entries =

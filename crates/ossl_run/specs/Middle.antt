@@ -1,5 +1,6 @@
 -- The parts of a run: what its callers leave between the opening and the closing, and what it comes to.
-use Rattle.std.specs.Prelude.{ℕ, ◌≡◌, ◌<◌, ◌≤◌, Bool, false, Ok, Err, Result, Option, Some, None, List, [], ◌++◌, ◌||◌, length, map}
+use Rattle.std.specs.Prelude.{ℕ, ◌≡◌, ◌<◌, ◌≤◌, Bool, false, ◌||◌, Ok, Err, Result, Option, Some, None, List, []}
+use Rattle.std.specs.Prelude.{◌++◌, length, map}
 use Rattle.std.specs.declared.alloc.AllocError.{AllocError}
 use Rattle.std.specs.Io.KnownBytes.{Appends}
 use Rattle.ossl_provider.specs.Sheet.{Facts}
@@ -48,7 +49,8 @@ pub record DidAll (batch : Batch) (list : List ℕ) (old new : List (Entry Call 
   pub told : AreTold batch.lines results
 
 -- these are the results of each caller of a task, from 1, after these entries
-pub record HasResults (task : Task) (results : List (List LineResult)) (entries : List (Entry Call Reply)) : Type 0 where
+pub record HasResults (task : Task) (results : List (List LineResult)) (entries : List (Entry Call Reply))
+    : Type 0 where
   pub each : length results ≡ callers_of task.prepared.script.commands
   pub are_results : AreResults (batch_of task.prepared) (own_numbers (batch_of task.prepared)) entries results
   pub told : AreTold task.prepared.script.commands results
@@ -69,7 +71,8 @@ IsRan threads (Some (Ok course)) task boxes entries =
 -- what was answered to a run, with the numbers of its callers; or memory was wanting
 abbrev pub IsToldOf : Bool → Task → List Facts → List (Entry Call Reply) → Result Answer AllocError → List ℕ → Type 0
 IsToldOf threads task facts entries (Ok answer) callers =
-    IsAnswered threads task facts (record { status = answer.status; text = answer.text.items; entries = entries; callers = callers })
+    IsAnswered threads task facts
+    (record { status = answer.status; text = answer.text.items; entries = entries; callers = callers })
 IsToldOf threads task facts entries (Err e) callers = AreNamed (batch_of task.prepared) entries callers
 
 -- an answer is written, or there is none, for want of memory

@@ -37,7 +37,8 @@ pub fn run_over<P: Provider, L: Ledger>(
     requires some { 0 < L.parts }
     requires catalogue { IsCatalogue (map P.facts catalogue.items) (map P.sheet catalogue.items) }
     requires runnable { IsRunnable task.now.prepared.script }
-    ensures ran { IsRan false result.course task.now (boxes_of P.facts P.sheet catalogue.items result.catalogue.items) result.history.items }
+    ensures ran { IsRan false result.course task.now
+        (boxes_of P.facts P.sheet catalogue.items result.catalogue.items) result.history.items }
     ensures facts { map P.facts result.catalogue.items ≡ map P.facts catalogue.items }
 {
     let contexts = task.prepared.script().contexts();
