@@ -81,6 +81,7 @@ pub finished : (P : Type 0) (settings : SettingsView) (batch : Batch) (contexts 
 unfolding finished_run
 finished P settings batch contexts tokens opening before after scripts few answered opened all adds = record {
   run = finished_run settings batch contexts tokens opening before after few answered opened all.done adds;
+  each = all.each;
   ended = all.ended;
   worked = subst (λ es. WereAtWork P batch opening es scripts) all.done.parts all.worked;
 }

@@ -24,7 +24,7 @@ use Rattle.ossl_crew.specs.Crew.{AreEnded, HaveDone, HaveGivenBack, IsBack, Were
 module _ {P : Type 0} (shared : SharedFacts (Shown P)) (batch : Batch) (n : ℕ) (caller : CallerFacts P) (script : ScriptCallerView)
     (back : IsBack shared batch n caller script) where
   module _ (ended : script.ended ≡ true) where
-    at_end : next_in batch n (replies_of back.has_made.made) ≡ nexts.End
+    pub at_end : next_in batch n (replies_of back.has_made.made) ≡ nexts.End
     at_end =
         ap (next_in batch n) (sym back.has_made.replies)
         ∙ ap (λ m. next_call batch.lines batch.contents m script.replies) (sym back.of_batch.caller)

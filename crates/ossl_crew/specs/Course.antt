@@ -26,6 +26,7 @@ pub record AreOf (batch : Batch) (contexts : ℕ) (scripts : List ScriptCallerVi
 pub record HaveEnded (P : Type 0) (batch : Batch) (opening entries : List (Entry Call Reply))
     (scripts : List ScriptCallerView) : Type 0 where
   pub done : HaveDone batch opening entries
+  pub each : length scripts ≡ callers_of batch.lines
   pub ended : AreEnded scripts
   pub worked : WereAtWork P batch opening entries scripts
 
@@ -48,6 +49,7 @@ Came P contexts scripts opening entries (Err NoMemory) (Err e) = ⊤
 pub record IsFinished (P : Type 0) (settings : SettingsView) (batch : Batch) (entries : List (Entry Call Reply))
     (scripts : List ScriptCallerView) : Type 0 where
   pub run : IsRun settings batch (own_numbers batch) entries
+  pub each : length scripts ≡ callers_of batch.lines
   pub ended : AreEnded scripts
   pub worked : WereAtWork P batch run.opening (run.opening ++ run.middle) scripts
 

@@ -26,7 +26,8 @@ AreScripts batch scripts = (k : ℕ) (other : ScriptCallerView) → k < length s
     → IsScriptOf batch (k + 1) (slice_index_or scripts k other) × IsFreshScript (slice_index_or scripts k other)
 
 -- a worker before its run
-pub record IsHired {P : Type 0} (shared : SharedFacts (Shown P)) (batch : Batch) (n : ℕ) (worker : WorkerFacts P) : Type 0 where
+pub record IsHired {P : Type 0} (shared : SharedFacts (Shown P)) (batch : Batch) (n : ℕ) (worker : WorkerFacts P)
+    : Type 0 where
   pub from : CameFrom shared worker.caller
   pub number : worker.caller.number ≡ n
   pub made : worker.caller.made ≡ 0
@@ -39,7 +40,8 @@ abbrev pub AreHired : {P : Type 0} → SharedFacts (Shown P) → Batch → ℕ �
 AreHired {P} shared batch count workers = (k : ℕ) (other : WorkerFacts P) → k < length workers
     → (n : ℕ) → n + k ≡ count → IsHired shared batch n (slice_index_or workers k other)
 
--- a worker may run: its caller came from the shared registry, and its script names no more library contexts than that has
+-- a worker may run: its caller came from the shared registry, and its script names no more library contexts than that
+-- has
 pub record IsReady {P : Type 0} (shared : SharedFacts (Shown P)) (worker : WorkerFacts P) : Type 0 where
   pub from : CameFrom shared worker.caller
   pub none : worker.caller.own ≡ []
@@ -79,17 +81,21 @@ AreBack {P} shared batch count workers = (k : ℕ) (other : WorkerFacts P) → k
     IsBack shared batch n worker.caller worker.script × (worker.finished ≡ true → worker.script.ended ≡ true)
 
 -- the callers and their scripts, from 1 on
-abbrev pub AreReturned : {P : Type 0} → SharedFacts (Shown P) → Batch → List (CallerFacts P) → List ScriptCallerView → Type 0
-AreReturned {P} shared batch callers scripts = (k : ℕ) (caller : CallerFacts P) (script : ScriptCallerView) → k < length callers
+abbrev pub AreReturned : {P : Type 0} → SharedFacts (Shown P) → Batch → List (CallerFacts P) → List ScriptCallerView
+    → Type 0
+AreReturned {P} shared batch callers scripts =
+    (k : ℕ) (caller : CallerFacts P) (script : ScriptCallerView) → k < length callers
     → IsBack shared batch (k + 1) (slice_index_or callers k caller) (slice_index_or scripts k script)
 
 -- the lines of each are done
 abbrev pub AreEnded : List ScriptCallerView → Type 0
-AreEnded scripts = (k : ℕ) (other : ScriptCallerView) → k < length scripts → (slice_index_or scripts k other).ended ≡ true
+AreEnded scripts = (k : ℕ) (other : ScriptCallerView) → k < length scripts
+    → (slice_index_or scripts k other).ended ≡ true
 
--- callers of a batch were at work over a shared registry, after an opening of the program: each of them is back, what it made is
--- all that the history has under its number, and nobody else has an entry behind the opening
-pub record WereAtWork (P : Type 0) (batch : Batch) (opening log : List (Entry Call Reply)) (scripts : List ScriptCallerView) : Type 0 where
+-- callers of a batch were at work over a shared registry, after an opening of the program: each of them is back, what
+-- it made is all that the history has under its number, and nobody else has an entry behind the opening
+pub record WereAtWork (P : Type 0) (batch : Batch) (opening log : List (Entry Call Reply))
+    (scripts : List ScriptCallerView) : Type 0 where
   pub shared : SharedFacts (Shown P)
   pub callers : List (CallerFacts P)
   pub back : AreReturned shared batch callers scripts
@@ -106,10 +112,11 @@ pub record HaveGivenBack (old new : List (Entry Call Reply)) : Type 0 where
   pub program : entries_of 0 middle ≡ []
   pub holds_none : (c t : ℕ) (token : Token) → 0 < c → owns (entries_of c middle) t token ≡ false
 
--- entries follow, in some order, in which each caller of the batch does its lines to their end and gives back what it holds, and
--- nobody else has an entry
+-- entries follow, in some order, in which each caller of the batch does its lines to their end and gives back what it
+-- holds, and nobody else has an entry
 pub record HaveDone (batch : Batch) (old new : List (Entry Call Reply)) : Type 0 where
   pub middle : List (Entry Call Reply)
   pub parts : new ≡ old ++ middle
-  pub done : (caller : ℕ) → 0 < caller → caller ≤ callers_of batch.lines → IsDone batch caller (entries_of caller middle)
+  pub done : (caller : ℕ) → 0 < caller → caller ≤ callers_of batch.lines
+      → IsDone batch caller (entries_of caller middle)
   pub others : (c : ℕ) → (c ≡ 0) ⊎ (callers_of batch.lines < c) → entries_of c middle ≡ []

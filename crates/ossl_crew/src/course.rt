@@ -33,8 +33,8 @@ pub enum Course {
     Refused(Text),
 }
 
-/// Lets the callers of a batch work over a registry in which only the program made calls so far; whatever the result, they
-/// hold nothing then.
+/// Lets the callers of a batch work over a registry in which only the program made calls so far; whatever the result,
+/// they hold nothing then.
 pub fn run_callers<R: Threads + Wait + Sync, P: Provider + Send, L: Ledger, G: Gate>(
     rt: &R,
     alloc: Global,

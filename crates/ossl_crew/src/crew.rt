@@ -97,10 +97,12 @@ impl<P: Provider + Send> Crew<P> {
         requires empty { (self.old.passes.items ≡ []) × (self.old.workers.items ≡ []) }
         requires room { (vec_len self.old.scripts < vec_capacity self.old.passes)
             × (vec_len self.old.scripts ≤ vec_capacity self.old.workers) }
-        ensures first { CameFrom shared.now first.new × (first.new.number ≡ 0) × (first.new.made ≡ vec_len self.new.passes) }
+        ensures first { CameFrom shared.now first.new × (first.new.number ≡ 0)
+            × (first.new.made ≡ vec_len self.new.passes) }
         ensures stays { (first.new.own ≡ first.old.own) × (first.new.seen ≡ first.old.seen) }
         ensures empty { self.new.workers.items ≡ [] }
-        ensures each { (vec_len self.new.passes ≡ vec_len self.old.scripts) × (vec_len self.new.scripts ≡ vec_len self.old.scripts) }
+        ensures each { (vec_len self.new.passes ≡ vec_len self.old.scripts)
+            × (vec_len self.new.scripts ≡ vec_len self.old.scripts) }
         ensures room { vec_len self.new.passes < vec_capacity self.new.passes }
         ensures returned { (batch : Batch) → contexts_of batch.lines ≤ shared.now.origin.contexts
             → AreScripts batch self.old.scripts.items
@@ -113,7 +115,8 @@ impl<P: Provider + Send> Crew<P> {
         self.dismiss()
     }
 
-    /// Splits a pass off the first one for each caller, and makes a worker of each, the last one first. It takes no memory.
+    /// Splits a pass off the first one for each caller, and makes a worker of each, the last one first. It takes no
+    /// memory.
     fn hire(&mut self, shared: &Shared<Registry<P>>, first: &mut Pass<Registry<P>>)
         requires first { CameFrom shared.now first.old × (first.old.number ≡ 0) × (first.old.made ≡ 0) }
         requires scripts { (batch : Batch) × AreScripts batch self.old.scripts.items }
@@ -121,7 +124,8 @@ impl<P: Provider + Send> Crew<P> {
         requires empty { (self.old.passes.items ≡ []) × (self.old.workers.items ≡ []) }
         requires room { (vec_len self.old.scripts < vec_capacity self.old.passes)
             × (vec_len self.old.scripts ≤ vec_capacity self.old.workers) }
-        ensures first { CameFrom shared.now first.new × (first.new.number ≡ 0) × (first.new.made ≡ vec_len self.old.scripts) }
+        ensures first { CameFrom shared.now first.new × (first.new.number ≡ 0)
+            × (first.new.made ≡ vec_len self.old.scripts) }
         ensures stays { (first.new.own ≡ first.old.own) × (first.new.seen ≡ first.old.seen) }
         ensures empty { (self.new.passes.items ≡ []) × (self.new.scripts.items ≡ []) }
         ensures each { vec_len self.new.workers ≡ vec_len self.old.scripts }
@@ -150,7 +154,8 @@ impl<P: Provider + Send> Crew<P> {
         requires room { (vec_len self.old.workers < vec_capacity self.old.passes)
             × (vec_len self.old.workers ≤ vec_capacity self.old.scripts) }
         ensures empty { self.new.workers.items ≡ [] }
-        ensures each { (vec_len self.new.passes ≡ vec_len self.old.workers) × (vec_len self.new.scripts ≡ vec_len self.old.workers) }
+        ensures each { (vec_len self.new.passes ≡ vec_len self.old.workers)
+            × (vec_len self.new.scripts ≡ vec_len self.old.workers) }
         ensures room { vec_len self.new.passes < vec_capacity self.new.passes }
         ensures returned { (shared : SharedFacts (Shown P)) (batch : Batch)
             → AreBack shared batch (vec_len self.old.workers) self.old.workers.items

@@ -1,6 +1,7 @@
 //! The callers of a batch in threads, over one shared registry.
-//! Promise: the program's opening stands before all their entries; each caller's entries are its script's calls, whatever the
-//! order in which the threads came to it; and all passes come back. The order is the one in which calls took place.
+//! Promise: the program's opening stands before all their entries; each caller's entries are its script's calls,
+//! whatever the order in which the threads came to it; and all passes come back. The order is the one in which calls
+//! took place.
 #![tactic(auto)]
 
 mod course;

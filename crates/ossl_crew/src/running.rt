@@ -18,16 +18,17 @@ use std::alloc::Global;
 use std::sync::Wait;
 use std::thread::Threads;
 
-/// What callers in threads leave: the registry, what each of them is then, from caller 1 on, and whether the lines of all are
-/// done.
+/// What callers in threads leave: the registry, what each of them is then, from caller 1 on, and whether the lines of
+/// all are done.
 pub struct Back<P: Provider> {
     pub registry: Registry<P>,
     pub scripts: Vec<ScriptCaller>,
     pub finished: bool,
 }
 
-/// Lets the callers of a batch work over a registry to which only the program made calls so far, each in a thread of its own, until
-/// all of them are done. Want of memory for the sharing is the only refusal, and hands the registry back as it was.
+/// Lets the callers of a batch work over a registry to which only the program made calls so far, each in a thread of
+/// its own, until all of them are done. Want of memory for the sharing is the only refusal, and hands the registry back
+/// as it was.
 #[tactic(auto, using(crate::proofs::HistoryLaws::legal_history))]
 pub fn run_crew<R: Threads + Wait + Sync, P: Provider + Send, G: Gate>(
     rt: &R,
@@ -38,10 +39,12 @@ pub fn run_crew<R: Threads + Wait + Sync, P: Provider + Send, G: Gate>(
 ) -> Result<Back<P>, ShareRefused<Registry<P>>>
     requires legal { IsLegal (fixed_of P.facts registry) registry.entries }
     requires program { entries_of 0 registry.entries ≡ registry.entries }
-    requires scripts { (batch : Batch) × (contexts_of batch.lines ≤ registry.contexts) × AreScripts batch crew.scripts.items }
+    requires scripts { (batch : Batch) × (contexts_of batch.lines ≤ registry.contexts)
+        × AreScripts batch crew.scripts.items }
     requires few { vec_len crew.scripts < 65536 }
     requires empty { (crew.passes.items ≡ []) × (crew.workers.items ≡ []) }
-    requires room { (vec_len crew.scripts < vec_capacity crew.passes) × (vec_len crew.scripts ≤ vec_capacity crew.workers) }
+    requires room { (vec_len crew.scripts < vec_capacity crew.passes)
+        × (vec_len crew.scripts ≤ vec_capacity crew.workers) }
     ensures fixed { IfOk result (λ back. fixed_of P.facts back.registry ≡ fixed_of P.facts registry) }
     ensures worked { IfOk result (λ back. (batch : Batch) → contexts_of batch.lines ≤ registry.contexts
         → AreScripts batch crew.scripts.items
@@ -49,7 +52,8 @@ pub fn run_crew<R: Threads + Wait + Sync, P: Provider + Send, G: Gate>(
     ensures gave_back { IfOk result (λ back. HaveGivenBack registry.entries back.registry.entries) }
 
     // Where the lines of all are done, the history holds each caller's calls once and in its order, and nobody else's.
-    ensures done { IfOk result (λ back. back.finished ≡ true → (batch : Batch) → contexts_of batch.lines ≤ registry.contexts
+    ensures done { IfOk result
+        (λ back. back.finished ≡ true → (batch : Batch) → contexts_of batch.lines ≤ registry.contexts
         → AreScripts batch crew.scripts.items → vec_len crew.scripts ≡ callers_of batch.lines
         → HaveDone batch registry.entries back.registry.entries) }
     ensures each { IfOk result (λ back. vec_len back.scripts ≡ vec_len crew.scripts) }

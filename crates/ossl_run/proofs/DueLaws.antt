@@ -1,4 +1,4 @@
--- A task that is due has the commands of a text, which name no more library contexts than there may be.
+-- A task that is due has the commands of a text, which name no more callers and library contexts than there may be.
 use Rattle.std.proofs.Common.{◌≡◌, ℕ, ◌≤◌, List, [], length, map, Bool, true, false, refl, ap, nat_lt, subst, sym, ◌∙◌, arith, inl, inr}
 use Rattle.std.specs.Prelude.{Option, Some, None, Result, Ok, Err, if◌then◌else◌}
 use Rattle.std.proofs.lemmas.Bool.{cases_lt, lt-ltb, true≢false}
@@ -34,6 +34,23 @@ said_by text script is = of (commands_of text) refl is
         let same : view ≡ script = cc in
         was ∙ ap saying same
 
+-- the second of two limits is not passed where none is
+second : (a b : Bool) (x y : limit.Limit) (rest : Option limit.Limit)
+    → (if a then Some x else if b then Some y else rest) ≡ None → b ≡ false
+second true b x y rest none = cc
+second false true x y rest none = cc
+second false false x y rest none = refl
+
+few_callers : (script : ScriptView) (lengths : List ℕ) → passed_limit script.lines script.commands lengths ≡ None
+    → callers_of script.commands ≤ 16
+few_callers script lengths none = elim (cases_lt 16 (callers_of script.commands)) [
+  | inl above ↦ absurd (true≢false (sym (lt-ltb 16 (callers_of script.commands) above)
+      ∙ second (nat_lt (most_of limits.Lines) script.lines)
+      (nat_lt (most_of limits.Callers) (callers_of script.commands))
+      limits.Lines limits.Callers _ none))
+  | inr few ↦ omega (arith, few)
+]
+
 -- the third of three limits is not passed where none is
 third : (a b c : Bool) (x y z : limit.Limit) (rest : Option limit.Limit)
     → (if a then Some x else if b then Some y else if c then Some z else rest) ≡ None → c ≡ false
@@ -63,6 +80,7 @@ module _ (text : List ℕ) (p : PreparedView) where
   runnable_of script held said x fits same = subst IsRunnable (sym same) (record {
     text = text;
     said = said_by text script said;
+    callers = few_callers script [] (passing_none (passed_limit script.lines script.commands []) x fits);
     few = few_contexts script [] (passing_none (passed_limit script.lines script.commands []) x fits);
   })
 

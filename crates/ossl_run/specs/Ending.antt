@@ -1,4 +1,5 @@
--- What a top call leaves, and how it ends: an error line, an opening that is refused, a finished run, or want of memory.
+-- What a top call leaves, and how it ends: an error line, an opening that is refused, a finished run, or want of
+-- memory.
 use Rattle.std.specs.Prelude.{ℕ, ◌≡◌, ◌⊎◌, All, Bool, true, false, Ok, Err, Option, None, List, []}
 use Rattle.std.specs.Prelude.{count_by, length, map, sum_by}
 use Rattle.std.specs.Io.KnownBytes.{Appends}
@@ -52,8 +53,8 @@ boxes_of facts sheet old new = record {
 abbrev pub registry_over : Boxes → ℕ → Fixed
 registry_over boxes contexts = record { facts = boxes.facts; contexts = contexts; opened = boxes.opened }
 
--- a registry was opened over the boxes and so many library contexts: its history is legal, each box has done what the history says,
--- and no box is up
+-- a registry was opened over the boxes and so many library contexts: its history is legal, each box has done what the
+-- history says, and no box is up
 pub record IsLeft (boxes : Boxes) (contexts : ℕ) (entries : List (Entry Call Reply)) : Type 0 where
   pub legal : IsLegal (registry_over boxes contexts) entries
   pub sheets : HasSheets (registry_over boxes contexts) boxes.after entries
@@ -80,8 +81,8 @@ abbrev pub good_after : Batch → List (Entry Call Reply) → ℕ
 good_after batch entries =
     sum_by (λ caller. good_among (results_of batch caller (replies_to caller entries))) (own_numbers batch)
 
--- the summary of a generated batch, with how many results are good, as a number of 64 bits holds it, how many entries there are, and
--- the digest of the results as they would be printed
+-- the summary of a generated batch, with how many results are good, as a number of 64 bits holds it, how many entries
+-- there are, and the digest of the results as they would be printed
 abbrev pub summary_after : Batch → List (Entry Call Reply) → Summary → List ℕ
 summary_after batch entries told =
     summary_text (record told { good = capped (good_after batch entries); entries = length entries })
@@ -98,7 +99,8 @@ text_of (Gen lines seed callers) facts batch entries = summary_after batch entri
 
 -- 3. The endings.
 
--- how a call is to end: its status, what is to be written, the history, and the number of each caller of the batch in it
+-- how a call is to end: its status, what is to be written, the history, and the number of each caller of the batch in
+-- it
 pub record Ending : Type 0 where
   pub status : ℕ
   pub text : List ℕ
@@ -113,8 +115,8 @@ pub record IsRefusedLine (inputs : Inputs) (boxes : Boxes) (ending : Ending) : T
   pub text : ending.text ≡ error_text error
   pub untouched : IsUntouched boxes ending.entries ending.callers
 
--- the run of a task whose opening is refused: a load is not answered with an activation, which is named, what was opened is closed, and
--- no caller of the batch has an entry
+-- the run of a task whose opening is refused: a load is not answered with an activation, which is named, what was
+-- opened is closed, and no caller of the batch has an entry
 pub record IsRefusedOpening (task : Task) (ending : Ending) : Type 0 where
   pub name : List ℕ
   pub run : IsRefusedRun task.prepared.settings (batch_of task.prepared) name ending.entries
@@ -153,11 +155,12 @@ abbrev pub AreNamed : Batch → List (Entry Call Reply) → List ℕ → Type 0
 AreNamed batch entries callers = (callers ≡ own_numbers batch) ⊎ (callers ≡ []) × (entries_of 0 entries ≡ entries)
 
 -- a run was begun that memory did not let end
-pub record IsStopped (inputs : Inputs) (boxes : Boxes) (entries : List (Entry Call Reply)) (callers : List ℕ) : Type 0 where
-  pub task : Task
-  pub due : IsDueRun inputs (Ok task)
-  pub named : AreNamed (batch_of task.prepared) entries callers
-  pub left : IsLeft boxes (contexts_of task.prepared.script.commands) entries
+pub record IsStopped (inputs : Inputs) (boxes : Boxes) (entries : List (Entry Call Reply)) (callers : List ℕ) : Type 0
+  where
+    pub task : Task
+    pub due : IsDueRun inputs (Ok task)
+    pub named : AreNamed (batch_of task.prepared) entries callers
+    pub left : IsLeft boxes (contexts_of task.prepared.script.commands) entries
 
 -- what a sink has taken, where it tells it, and its count of faults, before and after a call
 pub record Sunk : Type 0 where
@@ -166,15 +169,19 @@ pub record Sunk : Type 0 where
   pub faults : ℕ
   pub faults_now : ℕ
 
--- all of a text is written, and the status is that which is due; or it is 4: the sink failed, which it counted, and took a prefix
+-- all of a text is written, and the status is that which is due; or it is 4: the sink failed, which it counted, and
+-- took a prefix
 abbrev pub IsSent : Sunk → ℕ → List ℕ → ℕ → Type 0
 IsSent sunk due text status =
     (status ≡ due) × Appends sunk.taken sunk.now text
     ⊎ (status ≡ 4) × Rose sunk.faults sunk.faults_now × AppendsPrefix sunk.taken sunk.now text
 
--- how a call ends, of which this history and these callers are left: as is due; or at 9, for want of memory, with nothing written
+-- how a call ends, of which this history and these callers are left: as is due; or at 9, for want of memory, with
+-- nothing written
 abbrev pub Ends : Inputs → Boxes → Sunk → ℕ → List (Entry Call Reply) → List ℕ → Type 0
 Ends inputs boxes sunk status entries callers =
-    ((due : ℕ) × (text : List ℕ) × IsEnding inputs boxes (record { status = due; text = text; entries = entries; callers = callers })
+    ((due : ℕ) × (text : List ℕ)
+    × IsEnding inputs boxes (record { status = due; text = text; entries = entries; callers = callers })
     × IsSent sunk due text status)
-    ⊎ ((status ≡ 9) × Appends sunk.taken sunk.now [] × (IsUntouched boxes entries callers ⊎ IsStopped inputs boxes entries callers))
+    ⊎ ((status ≡ 9) × Appends sunk.taken sunk.now []
+    × (IsUntouched boxes entries callers ⊎ IsStopped inputs boxes entries callers))

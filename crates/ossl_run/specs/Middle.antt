@@ -23,10 +23,11 @@ use Rattle.ossl_run.specs.declared.course.Course.TheVariants.{Finished, Refused}
 use Rattle.ossl_run.specs.declared.answer.Answer.{Answer}
 use Rattle.ossl_run.specs.Ending.{AreNamed, Boxes, IsAnswered, IsLeft, IsRunBy, IsSent, Sunk, batch_of}
 
--- the commands of a text, which name no more library contexts than there may be
+-- the commands of a text, which name no more callers and no more library contexts than there may be
 pub record IsRunnable (script : ScriptView) : Type 0 where
   pub text : List ℕ
   pub said : commands_of text ≡ Ok (record { lines = script.commands; files = script.files })
+  pub callers : callers_of script.commands ≤ 16
   pub few : contexts_of script.commands ≤ 8
 
 -- entries follow that are none of the program's, and after which no caller holds a method or an operation context
@@ -38,7 +39,8 @@ pub record GaveBack (old new : List (Entry Call Reply)) : Type 0 where
       → (owns (entries_of c middle) t method_token || owns (entries_of c middle) t context_token) ≡ false
 
 -- all turns follow, and then what callers give back; these are the results of each caller, from 1
-pub record DidAll (batch : Batch) (list : List ℕ) (old new : List (Entry Call Reply)) (results : List (List LineResult)) : Type 0 where
+pub record DidAll (batch : Batch) (list : List ℕ) (old new : List (Entry Call Reply)) (results : List (List LineResult))
+    : Type 0 where
   pub turns : List (Entry Call Reply)
   pub returning : List (Entry Call Reply)
   pub parts : new ≡ old ++ turns ++ returning

@@ -46,12 +46,14 @@ pub fn error_answer(alloc: Global, error: &ErrorLine) -> Result<Answer, AllocErr
 
 /// The output of a finished run, as an answer.
 fn finished_answer<P: Provider>(alloc: Global, run: &Finished<P>) -> Result<Answer, AllocError>
-    requires legal { IsHistory (map P.facts run.now.catalogue.now) (contexts_of run.now.task.now.prepared.script.commands) run.now.history.now }
+    requires legal { IsHistory (map P.facts run.now.catalogue.now)
+        (contexts_of run.now.task.now.prepared.script.commands) run.now.history.now }
     requires results { HasResults run.now.task.now (map (λ rs. rs.items) run.now.results.now) run.now.history.now }
     requires callers { run.now.callers.now ≡ own_numbers (batch_of run.now.task.now.prepared) }
     ensures status { IfOk result (λ answer. answer.status ≡ 0) }
     ensures text { IfOk result (λ answer. answer.text.items
-        ≡ text_of run.now.task.now.job (map P.facts run.now.catalogue.now) (batch_of run.now.task.now.prepared) run.now.history.now) }
+        ≡ text_of run.now.task.now.job (map P.facts run.now.catalogue.now) (batch_of run.now.task.now.prepared)
+        run.now.history.now) }
 {
     let text = output_of(alloc, run)?;
     Ok(Answer { status: 0, text })
@@ -94,7 +96,8 @@ pub fn course_answer<P: Provider>(
     }
 }
 
-/// Writes an answer, and gives the status: its own, 4 where the sink failed, or 9 where there is no answer for want of memory.
+/// Writes an answer, and gives the status: its own, 4 where the sink failed, or 9 where there is no answer for want of
+/// memory.
 pub fn send<K: Sink>(sink: &mut K, answer: Result<Answer, AllocError>) -> u8
     ensures sent { Sends (record {
       taken = K.taken sink.old;

@@ -32,7 +32,8 @@ pub enum Course {
 /// The results of callers whose lines are done.
 fn results_of(alloc: Global, players: Vec<Player>) -> Result<Vec<Vec<LineResult>>, AllocError>
     requires ended { AreEnded players.items }
-    ensures results { IfOk result (λ results. map (λ rs. rs.items) results.items ≡ map (λ p. printed_of p.work) players.items) }
+    ensures results { IfOk result
+        (λ results. map (λ rs. rs.items) results.items ≡ map (λ p. printed_of p.work) players.items) }
 {
     let mut results = Vec::new(alloc);
     for player in players {
@@ -41,7 +42,8 @@ fn results_of(alloc: Global, players: Vec<Player>) -> Result<Vec<Vec<LineResult>
     Ok(results)
 }
 
-/// Lets the callers of a batch do their lines to the end, and give back what they hold; whatever the result, they hold nothing then.
+/// Lets the callers of a batch do their lines to the end, and give back what they hold; whatever the result, they hold
+/// nothing then.
 fn run_callers<P: Provider, L: Ledger>(
     alloc: Global,
     desk: &mut Desk<P, L>,
@@ -52,7 +54,8 @@ fn run_callers<P: Provider, L: Ledger>(
     requires opening { entries_of 0 desk.old.entries ≡ desk.old.entries }
     requires legal { IsLegal (fixed_of P.facts desk.old) desk.old.entries }
     ensures gave_back { GaveBack desk.old.entries desk.new.entries }
-    ensures did_all { IfOk result (λ results. DidAll (batch_of task.now.prepared) (order_of task.now.job) desk.old.entries desk.new.entries
+    ensures did_all { IfOk result
+        (λ results. DidAll (batch_of task.now.prepared) (order_of task.now.job) desk.old.entries desk.new.entries
         (map (λ rs. rs.items) results.items)) }
     ensures legal { IsLegal (fixed_of P.facts desk.new) desk.new.entries }
     ensures fixed { fixed_of P.facts desk.new ≡ fixed_of P.facts desk.old }
@@ -64,8 +67,8 @@ fn run_callers<P: Provider, L: Ledger>(
     results_of(alloc, players)
 }
 
-/// Runs a task over a registry that was just opened: the opening, the lines of all callers, and the closing. Whatever the result, what
-/// was opened is closed then, and no box is up.
+/// Runs a task over a registry that was just opened: the opening, the lines of all callers, and the closing. Whatever
+/// the result, what was opened is closed then, and no box is up.
 pub fn run_task<P: Provider, L: Ledger>(
     alloc: Global,
     desk: &mut Desk<P, L>,
@@ -75,7 +78,8 @@ pub fn run_task<P: Provider, L: Ledger>(
     requires contexts { contexts_of task.now.prepared.script.commands ≡ (fixed_of P.facts desk.old).contexts }
     requires fresh { desk.old.entries ≡ [] }
     ensures course { IfOk result (λ course. IsCourse false course task.now desk.new.entries) }
-    ensures down { (sheets : List Sheet) → HasSheets (fixed_of P.facts desk.new) sheets desk.new.entries → All IsDown sheets }
+    ensures down { (sheets : List Sheet) → HasSheets (fixed_of P.facts desk.new) sheets desk.new.entries
+        → All IsDown sheets }
     ensures legal { IsLegal (fixed_of P.facts desk.new) desk.new.entries }
     ensures fixed { fixed_of P.facts desk.new ≡ fixed_of P.facts desk.old }
 {

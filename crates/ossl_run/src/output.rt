@@ -32,7 +32,8 @@ pub struct Finished<'a, P: Provider> {
 
 /// The order and the results of a batch that was read.
 fn printed<P: Provider>(alloc: Global, run: &Finished<P>) -> Result<Vec<u8>, AllocError>
-    requires legal { IsHistory (map P.facts run.now.catalogue.now) (contexts_of run.now.task.now.prepared.script.commands) run.now.history.now }
+    requires legal { IsHistory (map P.facts run.now.catalogue.now)
+        (contexts_of run.now.task.now.prepared.script.commands) run.now.history.now }
     requires results { HasResults run.now.task.now (map (λ rs. rs.items) run.now.results.now) run.now.history.now }
     requires callers { run.now.callers.now ≡ own_numbers (batch_of run.now.task.now.prepared) }
     ensures text { let batch = batch_of run.now.task.now.prepared in
@@ -102,11 +103,13 @@ fn summed<P: Provider>(
 
 /// What a finished run writes: its order and its results, or the summary of a generated batch.
 pub fn output_of<P: Provider>(alloc: Global, run: &Finished<P>) -> Result<Vec<u8>, AllocError>
-    requires legal { IsHistory (map P.facts run.now.catalogue.now) (contexts_of run.now.task.now.prepared.script.commands) run.now.history.now }
+    requires legal { IsHistory (map P.facts run.now.catalogue.now)
+        (contexts_of run.now.task.now.prepared.script.commands) run.now.history.now }
     requires results { HasResults run.now.task.now (map (λ rs. rs.items) run.now.results.now) run.now.history.now }
     requires callers { run.now.callers.now ≡ own_numbers (batch_of run.now.task.now.prepared) }
     ensures text { IfOk result (λ text. text.items
-        ≡ text_of run.now.task.now.job (map P.facts run.now.catalogue.now) (batch_of run.now.task.now.prepared) run.now.history.now) }
+        ≡ text_of run.now.task.now.job (map P.facts run.now.catalogue.now) (batch_of run.now.task.now.prepared)
+        run.now.history.now) }
 {
     match &run.task.job {
         Job::Run { .. } => printed(alloc, run),

@@ -56,7 +56,12 @@ pub fn refuse<P: Provider, K: Sink>(
 ) -> Outcome<P>
     ensures ends { (inputs : Inputs) → IsDueRun inputs (Err error.now) →
         Ends inputs (boxes_of P.facts P.sheet catalogue.items result.catalogue.items)
-        (record { taken = K.taken sink.old; now = K.taken sink.new; faults = K.faults sink.old; faults_now = K.faults sink.new })
+        (record {
+          taken = K.taken sink.old;
+          now = K.taken sink.new;
+          faults = K.faults sink.old;
+          faults_now = K.faults sink.new;
+        })
         result.status result.history.items result.callers.items }
     ensures catalogue { result.catalogue.items ≡ catalogue.items }
 {
@@ -80,7 +85,12 @@ fn perform<P: Provider, L: Ledger, K: Sink>(
     requires due { (inputs : Inputs) × IsDueRun inputs (Ok task.now) }
     ensures ends { (inputs : Inputs) → inputs.threads ≡ false → IsDueRun inputs (Ok task.now) →
         Ends inputs (boxes_of P.facts P.sheet catalogue.items result.catalogue.items)
-        (record { taken = K.taken sink.old; now = K.taken sink.new; faults = K.faults sink.old; faults_now = K.faults sink.new })
+        (record {
+          taken = K.taken sink.old;
+          now = K.taken sink.new;
+          faults = K.faults sink.old;
+          faults_now = K.faults sink.new;
+        })
         result.status result.history.items result.callers.items }
     ensures facts { map P.facts result.catalogue.items ≡ map P.facts catalogue.items }
     ensures down { All IsDown (map P.sheet result.catalogue.items) }
@@ -113,11 +123,11 @@ fn perform<P: Provider, L: Ledger, K: Sink>(
     }
 }
 
-/// Answers the words of a command line, from the bytes in to the bytes out: runs the batch that the source has left, or one that is
-/// generated, and writes its order and its results, or one error line.
+/// Answers the words of a command line, from the bytes in to the bytes out: runs the batch that the source has left, or
+/// one that is generated, and writes its order and its results, or one error line.
 ///
-/// The words are those after the program's name. The boxes come back in their order, and none of them is up, at any status. Want of
-/// memory is the only free answer.
+/// The words are those after the program's name. The boxes come back in their order, and none of them is up, at any
+/// status. Want of memory is the only free answer.
 pub fn replay<S: Source, F: Files, K: Sink>(
     alloc: Global,
     words: &[String],
@@ -128,7 +138,8 @@ pub fn replay<S: Source, F: Files, K: Sink>(
 ) -> Outcome
     requires catalogue { IsCatalogue (map (λ b. facts b) catalogue.items) (map (λ b. sheet b) catalogue.items) }
 
-    // The first error in the order of the checks, a refused opening, a finished run, or want of memory; at 4 a prefix of the former.
+    // The first error in the order of the checks, a refused opening, a finished run, or want of memory; at 4 a prefix
+    // of the former.
     ensures ends { Ends (record {
       threads = false;
       words = bytes_of words.now;
@@ -137,15 +148,21 @@ pub fn replay<S: Source, F: Files, K: Sink>(
       after = S.faults source.new;
       files = record { entries = F.entries files.old; before = F.faults files.old; after = F.faults files.new };
     }) (boxes_of (λ b. facts b) (λ b. sheet b) catalogue.items result.catalogue.items)
-        (record { taken = K.taken sink.old; now = K.taken sink.new; faults = K.faults sink.old; faults_now = K.faults sink.new })
+        (record {
+          taken = K.taken sink.old;
+          now = K.taken sink.new;
+          faults = K.faults sink.old;
+          faults_now = K.faults sink.new;
+        })
         result.status result.history.items result.callers.items }
 
     // At every status the boxes come back as they are, in their order, and none is up.
     ensures facts { map (λ b. facts b) result.catalogue.items ≡ map (λ b. facts b) catalogue.items }
     ensures down { All IsDown (map (λ b. sheet b) result.catalogue.items) }
 
-    // A finished run in a stated order is a run; in it each caller has made its calls, once and in its order, the program's own calls are
-    // before and behind all others, without an order the lines run in the order of the text, and but for refused starts it is the only one.
+    // A finished run in a stated order is a run; in it each caller has made its calls, once and in its order, the
+    // program's own calls are before and behind all others, without an order the lines run in the order of the text,
+    // and but for refused starts it is the only one.
     ensures is_run { RunInOrderIsRun }
     ensures each { EachCallerIsDone }
     ensures apart { ProgramIsApart }

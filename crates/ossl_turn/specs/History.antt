@@ -17,4 +17,5 @@ module _ {C R : Type 0} where
 
   -- each entry may follow those before it
   abbrev pub IsHistory : (List (Entry C R) → Entry C R → Type 0) → List (Entry C R) → Type 0
-  IsHistory follows log = (before : List (Entry C R)) (e : Entry C R) (after : List (Entry C R)) → log ≡ before ++ e ∷ after → follows before e
+  IsHistory follows log = (before : List (Entry C R)) (e : Entry C R) (after : List (Entry C R))
+      → log ≡ before ++ e ∷ after → follows before e

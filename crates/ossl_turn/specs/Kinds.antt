@@ -1,5 +1,7 @@
--- What each kind of step tells the pass that makes it. Each says the whole new seat: what the pass knows, and the slot where it holds it.
-use Rattle.std.specs.Prelude.{◌≡◌, ◌≢◌, ℕ, ◌+◌, ◌%◌, ◌^◌, ◌≤◌, List, [], ◌∷◌, ◌++◌, true, false, All, Some, None, Result, IfOk, OnErr}
+-- What each kind of step tells the pass that makes it. Each says the whole new seat: what the pass knows, and the slot
+-- where it holds it.
+use Rattle.std.specs.Prelude.{◌≡◌, ◌≢◌, ℕ, ◌+◌, ◌%◌, ◌^◌, ◌≤◌, List, [], ◌∷◌, ◌++◌, true, false, All, Some, None}
+use Rattle.std.specs.Prelude.{Result, IfOk, OnErr}
 use mathlib.Core.List.{IsPrefix}
 use Rattle.atomic_table.specs.Table.{Me, Step}
 use Rattle.ossl_base.specs.declared.entry.Entry.{Entry}
@@ -21,14 +23,30 @@ module _ {C R F : Type 0} where
 
   -- a new pass has seen what the first has, and no call is its own
   abbrev pub newcomer : View C R F → View C R F
-  newcomer v = record { live = true; claim = claim_of (v.made + 1) [] v.claim.seen; stage = Idle; origin = v.origin; made = 0; drawn = 0; taken = [] }
+  newcomer v = record {
+    live = true;
+    claim = claim_of (v.made + 1) [] v.claim.seen;
+    stage = Idle;
+    origin = v.origin;
+    made = 0;
+    drawn = 0;
+    taken = [];
+  }
 
   abbrev pub joined : View C R F → View C R F → View C R F
   joined v w = record v { taken = w.claim ∷ v.taken }
 
   -- what is left of a pass that was taken over
   abbrev pub spent : View C R F
-  spent = record { live = false; claim = claim_of 0 [] []; stage = Idle; origin = None; made = 0; drawn = 0; taken = [] }
+  spent = record {
+    live = false;
+    claim = claim_of 0 [] [];
+    stage = Idle;
+    origin = None;
+    made = 0;
+    drawn = 0;
+    taken = [];
+  }
 
   -- the turn is over, and the pass has seen the history h
   abbrev pub after_call : View C R F → List (Entry C R) → View C R F
@@ -66,13 +84,18 @@ module _ {C R F : Type 0} where
     served st m r n = (o : O) → m.1 ≡ (0, o) ∷ [] → n ≡ (after_call m.0 (history o), [])
 
     module _ (fixed : O → F) (follows : F → List (Entry C R) → Entry C R → Type 0) where
-      -- the object's history begins with what the pass has seen, the pass's own calls are those under its number, and each entry may follow those before it
+      -- the object's history begins with what the pass has seen, the pass's own calls are those under its number, and
+      -- each entry may follow those before it
       abbrev pub Finds : View C R O → O → Type 0
-      Finds v o = SameFixed fixed v o × IsPrefix v.claim.seen (history o) × (own_of v.claim.number (history o) ≡ v.claim.own) × IsHistory (follows (fixed o)) (history o)
+      Finds v o = SameFixed fixed v o × IsPrefix v.claim.seen (history o)
+          × (own_of v.claim.number (history o) ≡ v.claim.own) × IsHistory (follows (fixed o)) (history o)
 
-      -- look at serving: where the word is the ticket, the caller has the turn and takes the object out of the slot; else nothing changes
+      -- look at serving: where the word is the ticket, the caller has the turn and takes the object out of the slot;
+      -- else nothing changes
       abbrev pub looked : Step O → Me O (View C R O) → ℕ → Me O (View C R O) → Type 0
-      looked st m r n = let k = ticket_of m.0.stage in (r ≢ k % 2 ^ 64 → n ≡ m) × (r ≡ k % 2 ^ 64 → (o : O) × (n ≡ (at_stage m.0 (Turn k (history o)), (0, o) ∷ m.1)) × Finds m.0 o)
+      looked st m r n = let k = ticket_of m.0.stage in
+          (r ≢ k % 2 ^ 64 → n ≡ m)
+          × (r ≡ k % 2 ^ 64 → (o : O) × (n ≡ (at_stage m.0 (Turn k (history o)), (0, o) ∷ m.1)) × Finds m.0 o)
 
       -- the pass of the view v has got the turn, and the object
       abbrev pub HasTurn : View C R O → Me O (View C R O) → Type 0
@@ -88,18 +111,22 @@ module _ {O V : Type 0} where
   abbrev pub Holds : Me O V → (O → Type 0) → Type 0
   Holds m P = (o : O) × (m.1 ≡ (0, o) ∷ []) × P o
 
-module _ {O C R F : Type 0} (history : O → List (Entry C R)) (fixed : O → F) (follows : F → List (Entry C R) → Entry C R → Type 0) where
+module _ {O C R F : Type 0} (history : O → List (Entry C R)) (fixed : O → F)
+    (follows : F → List (Entry C R) → Entry C R → Type 0) where
   -- one call of the object o, which is then p
   abbrev pub Makes : {X : Type 0} → ℕ → C → O → O → Result R X → Type 0
   Makes number call o p result = (fixed p ≡ fixed o)
-      × IfOk result (λ r. (history p ≡ history o ++ entry_of number call r ∷ []) × follows (fixed o) (history o) (entry_of number call r))
+      × IfOk result (λ r. (history p ≡ history o ++ entry_of number call r ∷ [])
+      × follows (fixed o) (history o) (entry_of number call r))
       × OnErr result (history p ≡ history o)
 
   -- the pass with the turn holds the object with one more entry, of its own
   abbrev pub HasAnswer : Me O (View C R O) → Type 0
-  HasAnswer m = (k : ℕ) × (h : List (Entry C R)) × (e : Entry C R) × (o : O) × (m.1 ≡ (0, o) ∷ []) × (m.0.live ≡ true) × (m.0.stage ≡ Turn k h) × (history o ≡ h ++ e ∷ []) × (e.caller ≡ m.0.claim.number)
+  HasAnswer m = (k : ℕ) × (h : List (Entry C R)) × (e : Entry C R) × (o : O) × (m.1 ≡ (0, o) ∷ []) × (m.0.live ≡ true)
+      × (m.0.stage ≡ Turn k h) × (history o ≡ h ++ e ∷ []) × (e.caller ≡ m.0.claim.number)
       × SameFixed fixed m.0 o × IsPrefix m.0.claim.seen h × follows (fixed o) h e
 
   -- the pass with the turn holds the object with the history that it found
   abbrev pub HasNoAnswer : Me O (View C R O) → Type 0
-  HasNoAnswer m = (k : ℕ) × (h : List (Entry C R)) × (o : O) × (m.1 ≡ (0, o) ∷ []) × (m.0.live ≡ true) × (m.0.stage ≡ Turn k h) × (history o ≡ h) × SameFixed fixed m.0 o
+  HasNoAnswer m = (k : ℕ) × (h : List (Entry C R)) × (o : O) × (m.1 ≡ (0, o) ∷ []) × (m.0.live ≡ true)
+      × (m.0.stage ≡ Turn k h) × (history o ≡ h) × SameFixed fixed m.0 o

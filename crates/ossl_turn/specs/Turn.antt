@@ -1,6 +1,7 @@
 -- The rule of the turn: what holds of the words, of the slot and of what all passes know, between any two steps.
--- Word 0 counts the numbers drawn. Word 1 counts the tickets drawn and word 2, the serving word, the turns that are over, each modulo 2^64. Slot 0 has the object.
--- A ticket lock (Mellor-Crummey and Scott, 1991) with the history that linearizability (Herlihy and Wing, 1990) speaks of.
+-- Word 0 counts the numbers drawn. Word 1 counts the tickets drawn and word 2, the serving word, the turns that are
+-- over, each modulo 2^64. Slot 0 has the object. A ticket lock (Mellor-Crummey and Scott, 1991) with the history that
+-- linearizability (Herlihy and Wing, 1990) speaks of.
 use Rattle.std.specs.Prelude.{◌≡◌, ℕ, ◌+◌, ◌%◌, ◌^◌, ◌<◌, ◌≤◌, List, [], ◌∷◌, length, Bool, true, false, All, Some}
 use mathlib.Core.Option.{some}
 use mathlib.Core.List.{IsPrefix}
@@ -40,7 +41,8 @@ module _ {C R : Type 0} where
   ticket_count Idle = 0
   ticket_count _ = 1
 
--- How things stand: the history, how many turns are over and how many tickets are drawn, and how many passes the first one split off and how many numbers it drew
+-- How things stand: the history, how many turns are over and how many tickets are drawn, and how many passes the first
+-- one split off and how many numbers it drew
 pub record Now (C R : Type 0) : Type 0 where
   pub log : List (Entry C R)
   pub serving : ℕ
@@ -49,7 +51,8 @@ pub record Now (C R : Type 0) : Type 0 where
   pub drawn : ℕ
 
 module _ {C R : Type 0} where
-  -- a ticket that is out is from the serving word on and before the ticket word, and the pass with the turn has the first of them and knows the history
+  -- a ticket that is out is from the serving word on and before the ticket word, and the pass with the turn has the
+  -- first of them and knows the history
   abbrev pub Queues : Now C R → Stage C R → Type 0
   Queues t Idle = Unit {0}
   Queues t (Waiting k) = (t.serving ≤ k) × (k < t.tickets)
@@ -58,7 +61,15 @@ module _ {C R : Type 0} where
 module _ {C R F : Type 0} where
   -- the first pass, before any step: it has seen the history so far, all of which is its own
   abbrev pub first_view : List (Entry C R) → F → View C R F
-  first_view h f = record { live = true; claim = claim_of 0 h h; stage = Idle; origin = Some f; made = 0; drawn = 0; taken = [] }
+  first_view h f = record {
+    live = true;
+    claim = claim_of 0 h h;
+    stage = Idle;
+    origin = Some f;
+    made = 0;
+    drawn = 0;
+    taken = [];
+  }
 
   -- the i-th view is v
   abbrev pub IsView : List (View C R F) → ℕ → View C R F → Type 0
@@ -86,7 +97,8 @@ module _ {C R F : Type 0} where
     -- the same is said of each pass that it took over
     pub taken : All (λ c. Stands t.log c × IsSpent views c.number) v.taken
 
-module _ {O C R F : Type 0} (history : O → List (Entry C R)) (fixed : O → F) (follows : F → List (Entry C R) → Entry C R → Type 0) where
+module _ {O C R F : Type 0} (history : O → List (Entry C R)) (fixed : O → F)
+    (follows : F → List (Entry C R) → Entry C R → Type 0) where
   -- The rule, with f the object as it was opened
   pub record TurnRule (f : O) (s : State O (View C R O)) : Type 0 where
     pub now : Now C R
@@ -98,9 +110,12 @@ module _ {O C R F : Type 0} (history : O → List (Entry C R)) (fixed : O → F)
     -- the tickets that are out are the numbers from the serving word on that come before the ticket word, each once
     pub queue : now.serving + waiting s.views ≡ now.tickets
     pub each : (i : ℕ) (v : View C R O) → IsView s.views i v → Knows f now s.views i v
-    pub apart : (i j k : ℕ) (v w : View C R O) → IsView s.views i v → IsView s.views j w → HasTicket v.stage k → HasTicket w.stage k → i ≡ j
-    pub every : (k : ℕ) → now.serving ≤ k → k < now.tickets → (i : ℕ) × (v : View C R O) × IsView s.views i v × HasTicket v.stage k
+    pub apart : (i j k : ℕ) (v w : View C R O) → IsView s.views i v → IsView s.views j w → HasTicket v.stage k
+        → HasTicket w.stage k → i ≡ j
+    pub every : (k : ℕ) → now.serving ≤ k → k < now.tickets
+        → (i : ℕ) × (v : View C R O) × IsView s.views i v × HasTicket v.stage k
     -- while no pass has the turn, the slot has the object, at this history
-    pub object : NoneHasTurn s.views → (o : O) × (get_elem? s.homes 0 ≡ some (some o)) × (history o ≡ now.log) × (fixed o ≡ fixed f)
+    pub object : NoneHasTurn s.views
+        → (o : O) × (get_elem? s.homes 0 ≡ some (some o)) × (history o ≡ now.log) × (fixed o ≡ fixed f)
     pub lawful : IsHistory (follows (fixed f)) now.log
     pub within : All (λ e. e.caller ≤ now.made) now.log

@@ -1,5 +1,6 @@
 //! The kinds of step, each with what it tells the pass that makes it.
-ghost use Rattle.ossl_turn.specs.Kinds.{drew_number, drew_ticket, looked, served, served_none, newcomer, split_off, joined, spent};
+ghost use Rattle.ossl_turn.specs.Kinds.{drew_number, drew_ticket, looked, served, served_none, newcomer, split_off};
+ghost use Rattle.ossl_turn.specs.Kinds.{joined, spent};
 
 use crate::object::Object;
 use crate::rule::PassView;

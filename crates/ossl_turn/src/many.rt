@@ -9,14 +9,15 @@ use crate::shared::Shared;
 use std::alloc::Global;
 
 impl<O: Object> Shared<O> {
-    /// Splits off a pass for each of `count` callers, numbered from 1 on, into a list that has room for them and for the
-    /// first pass. It takes no memory.
+    /// Splits off a pass for each of `count` callers, numbered from 1 on, into a list that has room for them and for
+    /// the first pass. It takes no memory.
     pub fn split_all(&self, first: &mut Pass<O>, passes: &mut Vec<Pass<O>, Global>, count: usize)
         requires first { CameFrom self.now first.old × (first.old.number ≡ 0) × (first.old.made ≡ 0) }
         requires room { (passes.old.items ≡ []) × (count < vec_capacity passes.old) × (count < 65536) }
         ensures first { CameFrom self.now first.new × (first.new.number ≡ 0) × (first.new.made ≡ count) }
         ensures stays { IsAfterSplits count first.old first.new }
-        ensures others { (length passes.new.items ≡ count) × All (CameFrom self.now) passes.new.items × AreNumbered passes.new.items }
+        ensures others { (length passes.new.items ≡ count) × All (CameFrom self.now) passes.new.items
+            × AreNumbered passes.new.items }
         ensures fresh { All (IsFresh first.old) passes.new.items }
 
         // What each new pass has seen is lawful, and all in it is the first pass's own.

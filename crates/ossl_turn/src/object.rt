@@ -5,7 +5,8 @@ ghost use Rattle.ossl_turn.specs.History.{own_of, entry_of};
 
 use std::alloc::AllocError;
 
-/// A sequential object. An answered call appends one entry to its history, and a call that finds no memory appends none.
+/// A sequential object. An answered call appends one entry to its history, and a call that finds no memory appends
+/// none.
 pub trait Object: Send {
     /// What is asked of it.
     type Call;

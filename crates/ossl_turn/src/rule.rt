@@ -29,7 +29,8 @@ pub struct View<C, R, F> {
     pub stage: Stage<C, R>,
     /// The object as it was opened.
     pub origin: Option<F>,
-    /// How many passes the first pass split off, how many numbers it drew, and what it took over. Of another pass 0, 0 and nothing.
+    /// How many passes the first pass split off, how many numbers it drew, and what it took over. Of another pass 0, 0
+    /// and nothing.
     pub made: u64,
     pub drawn: u64,
     pub taken: LinkedList<Claim<C, R>>,

@@ -44,7 +44,8 @@ impl<O: Object> Shared<O> {
     pub fn open(alloc: Global, object: O) -> Result<(Shared<O>, Pass<O>), ShareRefused<O>>
         requires { O.history object ≡ [] }
         ensures shared { IfOk result (λ r. O.fixed r.0.origin ≡ O.fixed object) }
-        ensures first { IfOk result (λ r. CameFrom r.0 r.1 × (r.1.number ≡ 0) × (r.1.made ≡ 0) × (r.1.seen ≡ []) × (r.1.own ≡ [])) }
+        ensures first { IfOk result
+            (λ r. CameFrom r.0 r.1 × (r.1.number ≡ 0) × (r.1.made ≡ 0) × (r.1.seen ≡ []) × (r.1.own ≡ [])) }
         ensures refused { IfErr result (λ r. r.object ≡ object) }
     {
         Shared::resume(alloc, object)
@@ -97,11 +98,14 @@ impl<O: Object> Shared<O> {
     ) -> Result<O::Reply, AllocError>
         requires pass { CameFrom self.now pass.old }
         requires allowed { O.may_call (O.fixed self.now.origin) pass.old.own call.now }
-        ensures answered { IfOk result (λ r. Answers (O.follows (O.fixed self.now.origin)) pass.old pass.new (entry_of pass.old.number call.now r)) }
+        ensures answered { IfOk result
+            (λ r. Answers (O.follows (O.fixed self.now.origin)) pass.old pass.new
+            (entry_of pass.old.number call.now r)) }
         ensures refused { OnErr result (pass.new ≡ pass.old) }
 
         // Where no object that the call may find wants memory for it, it is answered.
-        ensures memory { ((o : O) → MayFind O.history O.fixed O.follows self.now pass.old o → O.needs_no_memory o pass.old.number call.now) → IsOk result }
+        ensures memory { ((o : O) → MayFind O.history O.fixed O.follows self.now pass.old o
+            → O.needs_no_memory o pass.old.number call.now) → IsOk result }
     {
         let _let_in = self.door.lock(rt);
         let table = &self.table.shared;

@@ -31,7 +31,8 @@ pub(crate) const OBJECT: usize = 0;
 
 /// Takes the turn, with a ticket of its own. The seat then holds the object.
 pub(crate) fn take_turn<O: Object, R: Wait>(table: &TurnTable<O>, rt: &R, seat: &mut TurnSeat<O>)
-    requires table { (seat.old.table_id ≡ table.now.table_id) × (table.now.table_id.words ≡ 3) × (table.now.table_id.slots ≡ 1) }
+    requires table { (seat.old.table_id ≡ table.now.table_id) × (table.now.table_id.words ≡ 3)
+        × (table.now.table_id.slots ≡ 1) }
     requires idle { (seat.old.me.1 ≡ []) × (seat.old.me.0.live ≡ true) × (seat.old.me.0.stage ≡ Idle) }
     ensures table { (seat.new.table_id ≡ seat.old.table_id) × (seat.new.id ≡ seat.old.id) }
     ensures turn { HasTurn O.history O.fixed O.follows seat.old.me.0 seat.new.me }
@@ -55,8 +56,11 @@ pub(crate) fn make_call<O: Object>(
 ) -> Result<O::Reply, AllocError>
     requires table { seat.old.table_id ≡ table.now.table_id }
     requires holds { Holds seat.old.me (λ o. O.may_call (O.fixed o) (own_of number (O.history o)) call.now) }
-    ensures table { (seat.new.table_id ≡ seat.old.table_id) × (seat.new.id ≡ seat.old.id) × (seat.new.me.0 ≡ seat.old.me.0) }
-    ensures made { Holds seat.old.me (λ o. Holds seat.new.me (λ p. Makes O.history O.fixed O.follows number call.now o p result × (O.needs_no_memory o number call.now → IsOk result))) }
+    ensures table { (seat.new.table_id ≡ seat.old.table_id) × (seat.new.id ≡ seat.old.id)
+        × (seat.new.me.0 ≡ seat.old.me.0) }
+    ensures made { Holds seat.old.me
+        (λ o. Holds seat.new.me (λ p. Makes O.history O.fixed O.follows number call.now o p result
+        × (O.needs_no_memory o number call.now → IsOk result))) }
 {
     let object = seat.slot_mut(table, OBJECT);
     object.apply(number, call)
@@ -64,7 +68,8 @@ pub(crate) fn make_call<O: Object>(
 
 /// Ends the turn with one more entry.
 pub(crate) fn serve<O: Object>(table: &TurnTable<O>, seat: &mut TurnSeat<O>)
-    requires table { (seat.old.table_id ≡ table.now.table_id) × (table.now.table_id.words ≡ 3) × (table.now.table_id.slots ≡ 1) }
+    requires table { (seat.old.table_id ≡ table.now.table_id) × (table.now.table_id.words ≡ 3)
+        × (table.now.table_id.slots ≡ 1) }
     requires answer { HasAnswer O.history O.fixed O.follows seat.old.me }
     ensures table { (seat.new.table_id ≡ seat.old.table_id) × (seat.new.id ≡ seat.old.id) }
     ensures served { Holds seat.old.me (λ o. seat.new.me ≡ (after_call seat.old.me.0 (O.history o), [])) }
@@ -74,7 +79,8 @@ pub(crate) fn serve<O: Object>(table: &TurnTable<O>, seat: &mut TurnSeat<O>)
 
 /// Ends the turn with the history as it was.
 pub(crate) fn serve_none<O: Object>(table: &TurnTable<O>, seat: &mut TurnSeat<O>)
-    requires table { (seat.old.table_id ≡ table.now.table_id) × (table.now.table_id.words ≡ 3) × (table.now.table_id.slots ≡ 1) }
+    requires table { (seat.old.table_id ≡ table.now.table_id) × (table.now.table_id.words ≡ 3)
+        × (table.now.table_id.slots ≡ 1) }
     requires no_answer { HasNoAnswer O.history O.fixed O.follows seat.old.me }
     ensures table { (seat.new.table_id ≡ seat.old.table_id) × (seat.new.id ≡ seat.old.id) }
     ensures served { seat.new.me ≡ (at_stage seat.old.me.0 Idle, []) }

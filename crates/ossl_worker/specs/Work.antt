@@ -12,8 +12,8 @@ use Rattle.ossl_state.specs.declared.call.Reply.{Reply}
 use Rattle.ossl_state.specs.History.{Fixed, IsLegal}
 use Rattle.ossl_state.specs.Tokens.{entries_of}
 
--- a caller's entries are, one by one, the calls that its script gave, with the replies that it took, and then those that
--- give back; a call that found no memory is none of them
+-- a caller's entries are, one by one, the calls that its script gave, with the replies that it took, and then those
+-- that give back; a call that found no memory is none of them
 pub record HasMade (script : ScriptCallerView) (entries : List (Entry Call Reply)) : Type 0 where
   pub made : List (Entry Call Reply)
   pub given : List (Entry Call Reply)

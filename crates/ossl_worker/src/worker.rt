@@ -36,7 +36,8 @@ impl<P: Provider + Send> Model for Worker<P> {
 
     ghost view = { λ w. record { number = w.number; caller = w.caller; script = w.script; finished = w.finished } };
 
-    ghost invariant = { λ w. IsWorker (record { number = w.number; caller = w.caller; script = w.script; finished = w.finished }) };
+    ghost invariant = { λ w. IsWorker
+        (record { number = w.number; caller = w.caller; script = w.script; finished = w.finished }) };
 }
 
 impl<P: Provider + Send> Worker<P> {
@@ -58,8 +59,8 @@ impl<P: Provider + Send> Worker<P> {
         }
     }
 
-    /// Makes the calls of the lines up to their end, or up to a refusal of memory, and then those that give back. Before
-    /// each of them it calls the gate. Whatever the result, the caller owns nothing then.
+    /// Makes the calls of the lines up to their end, or up to a refusal of memory, and then those that give back.
+    /// Before each of them it calls the gate. Whatever the result, the caller owns nothing then.
     pub fn run<R: Wait, G: Gate>(
         &mut self,
         rt: &R,

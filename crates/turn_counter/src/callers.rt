@@ -1,5 +1,6 @@
 //! Callers that add to one counter, each in a thread of its own.
-ghost use Rattle.std.specs.Prelude.{◌≡◌, ℕ, List, ◌+◌, ◌<◌, ◌≤◌, [], ◌∷◌, ◌++◌, length, map, All, IfOk, OnOk, OnErr, IsSome, vec_len, vec_capacity, slice_index_or};
+ghost use Rattle.std.specs.Prelude.{◌≡◌, ℕ, List, ◌+◌, ◌<◌, ◌≤◌, [], ◌∷◌, ◌++◌, length, map, All, IfOk, OnOk, OnErr};
+ghost use Rattle.std.specs.Prelude.{IsSome, vec_len, vec_capacity, slice_index_or};
 ghost use Rattle.ossl_turn.specs.Passes.{CameFrom, AreNumbered};
 ghost use Rattle.turn_counter.specs.Adding.{AreCounted, HasAdded, HasHeard, IsStill};
 
@@ -26,11 +27,13 @@ pub fn add_often<R: Wait>(
     times: usize,
 ) -> Result<Vec<u64, Global>, AllocError>
     requires { CameFrom shared.now pass.old }
-    ensures pass { CameFrom shared.now pass.new × (pass.new.number ≡ pass.old.number) × (pass.new.made ≡ pass.old.made) }
+    ensures pass { CameFrom shared.now pass.new × (pass.new.number ≡ pass.old.number)
+        × (pass.new.made ≡ pass.old.made) }
     ensures heard { IfOk result (λ v. map (λ e. e.reply) pass.new.own ≡ map (λ e. e.reply) pass.old.own ++ v.items) }
     ensures times { IfOk result (λ v. length v.items ≡ times) }
     ensures added { IfOk result (λ v. HasAdded amount v.items pass.old pass.new) }
-    ensures short { OnErr result ((replies : List ℕ) × (length replies ≤ times) × HasAdded amount replies pass.old pass.new) }
+    ensures short { OnErr result
+        ((replies : List ℕ) × (length replies ≤ times) × HasAdded amount replies pass.old pass.new) }
 {
     let mut heard = Vec::with_capacity(alloc, times)?;
     for _ in 0..times {
@@ -40,7 +43,8 @@ pub fn add_often<R: Wait>(
     Ok(heard)
 }
 
-/// Each caller adds its amount so often, all at the same time. Each has then heard all answers, unless memory was wanting.
+/// Each caller adds its amount so often, all at the same time. Each has then heard all answers, unless memory was
+/// wanting.
 pub fn add_at_once<R: Threads + Wait + Sync>(
     alloc: Global,
     rt: &R,
@@ -53,8 +57,10 @@ pub fn add_at_once<R: Threads + Wait + Sync>(
     ensures came { All (λ a. CameFrom shared.now a.pass) adders.new }
     ensures counted { AreCounted (length adders.old) adders.new }
     ensures count { length adders.new ≡ length adders.old }
-    ensures still { (i : ℕ) (d : _) → i < length adders.old → IsStill (slice_index_or adders.old i d) (slice_index_or adders.new i d) }
-    ensures heard { (i : ℕ) (d : _) → i < length adders.old → HasHeard times (slice_index_or adders.old i d) (slice_index_or adders.new i d) }
+    ensures still { (i : ℕ) (d : _) → i < length adders.old
+        → IsStill (slice_index_or adders.old i d) (slice_index_or adders.new i d) }
+    ensures heard { (i : ℕ) (d : _) → i < length adders.old
+        → HasHeard times (slice_index_or adders.old i d) (slice_index_or adders.new i d) }
     ensures all { OnOk result (All (λ a. IsSome a.heard) adders.new) }
 {
     let threads = adders.len().max(1);
@@ -113,7 +119,8 @@ pub fn dismiss(
     requires counted { AreCounted (vec_len adders) adders.items }
     requires room { (passes.old.items ≡ []) × (vec_len adders ≤ vec_capacity passes.old) }
     requires heard { (heard.old.items ≡ []) × (vec_len adders ≤ vec_capacity heard.old) }
-    ensures passes { (length passes.new.items ≡ length adders.items) × (vec_capacity passes.new ≡ vec_capacity passes.old) }
+    ensures passes { (length passes.new.items ≡ length adders.items)
+        × (vec_capacity passes.new ≡ vec_capacity passes.old) }
     ensures came { All (CameFrom shared.now) passes.new.items }
     ensures numbered { AreNumbered passes.new.items }
     ensures heard { length heard.new.items ≡ length adders.items }

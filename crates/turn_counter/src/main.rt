@@ -1,5 +1,7 @@
-//! `turn_counter CALLERS CALLS`: so many callers, each in a thread of its own, add 1 to one shared counter, so often each.
-//! It promises what `ossl_turn` does of the object that comes back, and prints the number of entries and the total: the same whatever the schedule.
+//! `turn_counter CALLERS CALLS`: so many callers, each in a thread of its own, add 1 to one shared counter, so often
+//! each.
+//! It promises what `ossl_turn` does of the object that comes back, and prints the number of entries and the total: the
+//! same whatever the schedule.
 //! The measure of what a turn costs (bench/turn) is this program. Its work grows with the number of calls alone.
 #![tactic(auto)]
 

@@ -18,9 +18,13 @@ returns-in-true-clause-done g c batch of =
     let each : length c.args.crew.scripts.items ≡ callers_of batch.lines = of.each in
     let did = c.in-Ok.ensures.done c.in-true.is batch (omega (arith, few, same)) of.are (omega (arith, each, c.args.crew.scripts.ok.0)) in
     let worked = c.in-Ok.ensures.worked batch (omega (arith, few, same)) of.are in
+    let left = c.in-Ok.back.scripts in
+    let as_many : left.len ≡ c.args.crew.scripts.len = c.in-Ok.ensures.each in
+    let all : length left.items ≡ callers_of batch.lines =
+    omega (arith, each, as_many, left.ok.0, c.args.crew.scripts.ok.0) in
     subst (λ (z : List (Entry Call Reply) × List (Entry Call Reply)). HaveEnded g.row.P.Denot batch z.0 z.1 c.in-Ok.back.scripts.items)
     (λ i. (ap (λ (r : Shown g.row.P.Denot). r.entries) was i, ap (λ (r : Shown g.row.P.Denot). r.entries) (sym now) i))
-    (record { done = did; ended = c.in-Ok.ensures.ended c.in-true.is; worked = worked })
+    (record { done = did; each = all; ended = c.in-Ok.ensures.ended c.in-true.is; worked = worked })
 
 pub returns-in-Err-clause-gave_back : goal.returns-in-Err-clause-gave_back
 returns-in-Err-clause-gave_back g c =
