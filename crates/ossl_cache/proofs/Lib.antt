@@ -1,3 +1,4 @@
 pub mod Showing
 pub mod Placing
+pub mod Marking
 pub mod Making

@@ -1,2 +1,3 @@
 pub mod Recent
+pub mod Marks
 pub mod Places

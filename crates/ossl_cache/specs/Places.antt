@@ -1,5 +1,7 @@
 -- What 64 places show, in the order in which they were used.
-use Rattle.std.specs.Prelude.{◌≡◌, ℕ, ◌-◌, Bool, true, false, not, ◌&&◌, nat_eq, nat_lt, List, [], ◌∷◌, length, map, find, Option, Some, None, is_some, unwrap_or, option_map, if◌then◌else◌, slice_index_or, slice_get}
+use Rattle.std.specs.Prelude.{◌≡◌, ℕ, ◌-◌, Bool, true, false, not, ◌&&◌, nat_eq, nat_lt, List, [], ◌∷◌, length, map}
+use Rattle.std.specs.Prelude.{find, Option, Some, None, is_some, unwrap_or, option_map, if◌then◌else◌, slice_index_or}
+use Rattle.std.specs.Prelude.{slice_get}
 use Rattle.std.specs.List.{list_any}
 use Rattle.ossl_cache.specs.declared.key.Key.{Key}
 use Rattle.ossl_cache.specs.declared.places.Going.{Going}
@@ -38,7 +40,7 @@ pub record IsPlaced (slots : List (Option Answer)) (order : Order) : Type 0 wher
 -- the answer is among those that go
 abbrev pub goes : Going → Answer → Bool
 goes All a = true
-goes (OfKey key) a = same_key key.now a.0
+goes (OfKey held) a = same_key held.now.0 a.0
 goes (Asked op number) a = is_asked op number a
 goes (Answered instance) a = is_answered instance a
 

@@ -6,6 +6,7 @@ ghost use Rattle.std.specs.Map.{lookup};
 ghost use Rattle.lru.specs.LruCache.{promoted};
 ghost use Rattle.ossl_cache.specs.Recent.{most, same_key, with_answer, without, is_asked, is_answered};
 
+use crate::held::Held;
 use crate::key::{Kept, Key};
 use crate::places::{Going, Order, Slot, empty, kept_at, next_place, place_of};
 use lru::LruCache;
@@ -64,9 +65,10 @@ impl QueryCache {
     pub fn keep(&mut self, key: Key, kept: Kept)
         ensures first { self.new ≡ with_answer key kept self.old }
     {
-        empty(&mut self.slots, Going::Key(&key));
+        let held = Held::new(key, kept);
+        empty(&mut self.slots, Going::Key(&held));
         let free = next_place(self.slots.as_slice(), &self.order);
-        self.slots[free] = Some((key, kept));
+        self.slots[free] = Some(held);
         self.order.promote(&free);
     }
 

@@ -2,15 +2,18 @@
 
 ghost use Rattle.std.specs.Prelude.{◌≡◌, ◌<◌, None, Some, find, map, length, unwrap_or, option_map, slice_set};
 ghost use Rattle.ossl_cache.specs.Recent.{same_key};
+ghost use Rattle.ossl_cache.specs.Marks.{mark_of};
 ghost use Rattle.ossl_cache.specs.Places.{goes, emptied, held_at, holds_at, is_free, last_place, next_place};
 
+use crate::held::Held;
 use crate::key::{Kept, Key};
+use crate::mark::mark_of;
 use lru::LruCache;
 use ossl_codes::Operation;
 use ossl_names::Number;
 
 /// A place: empty, or a key with what answered it.
-pub type Slot = Option<(Key, Kept)>;
+pub type Slot = Option<Held>;
 
 /// The places, the last used first.
 pub type Order = LruCache<usize, ()>;
@@ -19,7 +22,7 @@ pub type Order = LruCache<usize, ()>;
 #[derive(Clone, Copy)]
 pub enum Going<'a> {
     All,
-    Key(&'a Key),
+    Key(&'a Held),
     Asked(Operation, Number),
     Answered(u64),
 }
@@ -36,21 +39,21 @@ pub fn empty(slots: &mut [Slot], going: Going)
 fn empty_one(slot: &mut Slot, going: Going)
     ensures { slot.new ≡ emptied (goes going.entry) slot.old }
 {
-    if let Some((key, kept)) = slot
-        && is_going(going, key, kept)
+    if let Some(held) = slot
+        && is_going(going, held)
     {
         *slot = None;
     }
 }
 
-fn is_going(going: Going, key: &Key, kept: &Kept) -> bool
-    ensures { result ≡ goes going.entry (key.now, kept.now) }
+fn is_going(going: Going, held: &Held) -> bool
+    ensures { result ≡ goes going.entry held.now }
 {
     match going {
         Going::All => true,
-        Going::Key(other) => other.is_same(key),
-        Going::Asked(op, number) => key.asks_for(op, number),
-        Going::Answered(instance) => kept.instance == instance,
+        Going::Key(other) => held.is_same(other),
+        Going::Asked(op, number) => held.key().asks_for(op, number),
+        Going::Answered(instance) => held.kept().instance == instance,
     }
 }
 
@@ -58,17 +61,19 @@ fn is_going(going: Going, key: &Key, kept: &Kept) -> bool
 pub fn place_of(slots: &[Slot], order: &Order, key: &Key) -> Option<usize>
     ensures { result ≡ find (holds_at (same_key key.now) slots.now) (map (λ e. e.0) order.now.entries) }
 {
+    let mark = mark_of(key);
     order
         .iter()
         .map(|e| *e.0)
-        .find(|place| holds(slots, *place, key))
+        .find(|place| holds(slots, *place, key, mark))
 }
 
-fn holds(slots: &[Slot], place: usize, key: &Key) -> bool
+fn holds(slots: &[Slot], place: usize, key: &Key, mark: u64) -> bool
+    requires { mark ≡ mark_of key.now }
     ensures { result ≡ holds_at (same_key key.now) slots.now place }
 {
     match slots.get(place) {
-        Some(Some((held, _))) => key.is_same(held),
+        Some(Some(held)) => held.is_of(key, mark),
         _ => false,
     }
 }
@@ -78,7 +83,7 @@ pub fn kept_at(slots: &[Slot], place: usize) -> Option<Kept>
     ensures { result ≡ option_map (λ a. a.1) (held_at slots.now place) }
 {
     match slots.get(place) {
-        Some(Some((_, kept))) => Some(*kept),
+        Some(Some(held)) => Some(held.kept()),
         _ => None,
     }
 }

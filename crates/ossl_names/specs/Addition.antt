@@ -1,5 +1,6 @@
 -- What becomes of names that are added together (EVP_MD_fetch(3), in outline).
-use Rattle.std.specs.Prelude.{ℕ, ◌+◌, not, ◌==◌, List, [], ◌∷◌, length, find, Option, None, Some, Result, Ok, Err, if◌then◌else◌}
+use Rattle.std.specs.Prelude.{ℕ, ◌+◌, not, ◌==◌, List, [], ◌∷◌, length, find, Option, None, Some, Result, Ok, Err}
+use Rattle.std.specs.Prelude.{if◌then◌else◌}
 use Rattle.std.specs.List.{list_all}
 use Rattle.ossl_names.specs.declared.refusal.AddRefused.{AddRefused}
 use Rattle.ossl_names.specs.declared.refusal.AddRefused.TheVariants.{BadName, Conflict}

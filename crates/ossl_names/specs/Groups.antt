@@ -1,5 +1,6 @@
 -- Groups of names in lower case. The number of a group is its place plus one (EVP_MD_fetch(3), in outline).
-use Rattle.std.specs.Prelude.{◌≡◌, ℕ, ◌-◌, ◌≤◌, Bool, List, [], ◌∷◌, ◌++◌, length, fold, filter_map, Option, Some, nat_le, slice_set, slice_index_or, if◌then◌else◌}
+use Rattle.std.specs.Prelude.{◌≡◌, ℕ, ◌-◌, ◌≤◌, Bool, List, [], ◌∷◌, ◌++◌, length, fold, filter_map, Option, Some}
+use Rattle.std.specs.Prelude.{nat_le, slice_set, slice_index_or, if◌then◌else◌}
 use Rattle.std.specs.List.{list_any, position_from}
 use Rattle.std.specs.Str.{bytes_eq}
 use Rattle.ossl_names.specs.Name.{folded}
@@ -50,4 +51,5 @@ with_names groups number names =
 -- a number that a name had stays its number, and the group of a number keeps its names in their places
 pub record KeepsNumbers (old new : Groups) : Type 0 where
   pub numbers : (name : List ℕ) (number : ℕ) → number_of old name ≡ Some number → number_of new name ≡ Some number
-  pub groups : (number : ℕ) → IsNumber old number → (later : Group) × (group_of new number ≡ group_of old number ++ later)
+  pub groups : (number : ℕ) → IsNumber old number
+      → (later : Group) × (group_of new number ≡ group_of old number ++ later)

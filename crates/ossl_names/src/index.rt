@@ -35,7 +35,8 @@ pub fn join(
     number: Number,
 ) -> Result<Vec<Text>, AllocError>
     requires { All (λ name. length name.now ≤ LONGEST_NAME) names.now }
-    ensures new { IfOk result (λ fresh. fresh.items ≡ new_names (is_found index.old) (map (λ name. name.now) names.now)) }
+    ensures new { IfOk result
+        (λ fresh. fresh.items ≡ new_names (is_found index.old) (map (λ name. name.now) names.now)) }
     ensures finds { IfOk result (λ fresh. FindsAlso index.old index.new fresh.items number) }
     ensures unknown { IfOk result (λ fresh. AreNew index.old fresh.items) }
     ensures err { OnErr result (FindsSame index.old index.new) }

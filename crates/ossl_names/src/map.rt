@@ -1,4 +1,5 @@
-ghost use Rattle.std.specs.Prelude.{◌≡◌, ◌≤◌, ℕ, ◌⊎◌, [], None, Some, Ok, Err, List, length, map, IfOk, IfSome, OnOk, OnErr};
+ghost use Rattle.std.specs.Prelude.{◌≡◌, ◌≤◌, ℕ, ◌⊎◌, [], None, Some, Ok, Err, List, length, map, IfOk, IfSome, OnOk};
+ghost use Rattle.std.specs.Prelude.{OnErr};
 
 use crate::index::{Index, join, leave, look_up};
 use crate::name::{is_name, names_in};
@@ -44,8 +45,8 @@ impl NameMap {
         }
     }
 
-    /// Adds the names of a text, which `:` joins, as one group: a new one where none is known, and else the one that has
-    /// all the known names. A number, once given, stays the number of its names.
+    /// Adds the names of a text, which `:` joins, as one group: a new one where none is known, and else the one that
+    /// has all the known names. A number, once given, stays the number of its names.
     pub fn add(&mut self, names: &[u8]) -> Result<Number, AddRefused>
         ensures answer { (result ≡ Err AddRefused.NoMemory) ⊎ (result ≡ addition self.old names.now) }
         ensures groups { OnOk result (self.new ≡ groups_after self.old names.now) }

@@ -1,7 +1,7 @@
 //! Asks the registry's parts the same again and again, for timing: `ossl_part_speed PART SIZE COUNT`.
 //! `store`: the best of 4 rows of one name, with SIZE rows offered in all. `cache`: the key of 3 clauses that was used
-//! longest ago, of SIZE keys, each of a name of its own. `alike`: the same of keys of one name that differ in their last
-//! clause. COUNT questions are asked; what is printed sums their answers.
+//! longest ago, of SIZE keys, each of a name of its own. `alike`: the same of keys of one name that differ in their
+//! last clause. COUNT questions are asked; what is printed sums their answers.
 #![tactic(auto)]
 
 mod cache;

@@ -1,5 +1,6 @@
 -- Merging and scores, after property(7).
-use Rattle.std.specs.Prelude.{◌≡◌, ℕ, Bool, true, false, not, ◌&&◌, Option, Some, None, List, [], ◌∷◌, ◌++◌, filter, count_by, find, if◌then◌else◌}
+use Rattle.std.specs.Prelude.{◌≡◌, ℕ, Bool, true, false, not, ◌&&◌, Option, Some, None, List, [], ◌∷◌, ◌++◌, filter}
+use Rattle.std.specs.Prelude.{count_by, find, if◌then◌else◌}
 use Rattle.std.specs.List.{list_any, AllByRecursion}
 use Rattle.std.specs.Option.{option_map}
 use Rattle.std.specs.Ordering.{int_eq}
@@ -20,7 +21,8 @@ is_kept relation = true
 abbrev pub asks : Clause → Bool
 asks clause = is_kept clause.relation
 
--- the given clauses that ask, and then the default's that ask and whose name the given query does not mention, in a clause or a removal
+-- the given clauses that ask, and then the default's that ask and whose name the given query does not mention, in a
+-- clause or a removal
 abbrev pub merged : List Clause → List Clause → List Clause
 merged given defaults = filter asks given ++ filter (λ clause. asks clause && not (mentions given clause.name)) defaults
 
@@ -38,7 +40,8 @@ holds Remove equal = false
 
 -- a definition's value of a name
 abbrev pub value_of : List Property → List ℕ → Option Value
-value_of definition name = option_map (λ property. property.value) (find (λ property. bytes_eq property.name name) definition)
+value_of definition name =
+    option_map (λ property. property.value) (find (λ property. bytes_eq property.name name) definition)
 
 -- an absent property counts as `no` for a string; a number on it is met under neither operator
 abbrev pub is_met_by : Relation → Value → Option Value → Bool
@@ -60,8 +63,11 @@ counts definition clause = asks clause && clause.optional && is_met definition c
 
 -- none where a mandatory clause is not met, and else the number of optional clauses that are; removals are passed over
 abbrev pub score_of : List Property → List Clause → Option ℕ
-score_of definition query = if list_any (refuses definition) query then None else Some (count_by (counts definition) query)
+score_of definition query =
+    if list_any (refuses definition) query then None else Some (count_by (counts definition) query)
 
 -- the given clauses that ask are all kept, and what is added to them has names that the given query does not mention
 abbrev pub KeepsGiven : List Clause → List Clause → Type 0
-KeepsGiven given result = (added : List Clause) × AllByRecursion (λ clause. mentions given clause.name ≡ false) added × (result ≡ filter asks given ++ added)
+KeepsGiven given result =
+    (added : List Clause) × AllByRecursion (λ clause. mentions given clause.name ≡ false) added
+    × (result ≡ filter asks given ++ added)

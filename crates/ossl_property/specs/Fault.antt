@@ -1,4 +1,5 @@
--- The place of a text's first fault, which is this project's own: the first token that cannot stand there, or the end where a token must come.
+-- The place of a text's first fault, which is this project's own: the first token that cannot stand there, or the end
+-- where a token must come.
 use Rattle.std.specs.Prelude.{◌≡◌, ℕ, ◌+◌, Bool, false, Result, Ok, Err, List, [], ◌∷◌, ◌++◌, length, bytes_eq}
 use Rattle.std.specs.List.{list_any}
 use Rattle.ossl_property.specs.declared.clause.TextRefused.{TextRefused}
@@ -20,11 +21,14 @@ MayStand AreWhole words = (more : List (List ℕ)) × AreWhole (words ++ more) �
 -- where the text ends, a token must come; else the token that comes next cannot stand there
 abbrev pub CannotGoOn : (List (List ℕ) → Type 0) → List (List ℕ) → List ℕ → Type 0
 CannotGoOn AreWhole words [] = AreWhole words → ⊥
-CannotGoOn AreWhole words (byte ∷ rest) = MayStand AreWhole (words ++ token (expects_value false words) (byte ∷ rest) ∷ []) → ⊥
+CannotGoOn AreWhole words (byte ∷ rest) =
+    MayStand AreWhole (words ++ token (expects_value false words) (byte ∷ rest) ∷ []) → ⊥
 
 -- the tokens up to the place may stand so, and the text cannot go on as it does from there
 abbrev pub IsFault : (List (List ℕ) → Type 0) → List ℕ → ℕ → Type 0
-IsFault AreWhole text place = (words : List (List ℕ)) × (rest : List ℕ) × Begins false words text rest × MayStand AreWhole words × CannotGoOn AreWhole words rest × (place + length rest ≡ length text)
+IsFault AreWhole text place =
+    (words : List (List ℕ)) × (rest : List ℕ) × Begins false words text rest × MayStand AreWhole words
+    × CannotGoOn AreWhole words rest × (place + length rest ≡ length text)
 
 -- the place of the first fault of a text that is no query, or no definition
 abbrev pub IsQueryFault : List ℕ → ℕ → Type 0

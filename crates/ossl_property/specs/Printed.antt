@@ -36,7 +36,8 @@ printed_value (Text text) = printed_string text
 -- `?` where optional, the name, the operator, the value; a removal is `-name`
 abbrev pub printed_parts : Bool → List ℕ → Relation → Value → List ℕ
 printed_parts optional name Remove value = operator Remove ++ name
-printed_parts optional name relation value = (if optional then 63 ∷ [] else []) ++ name ++ operator relation ++ printed_value value
+printed_parts optional name relation value =
+    (if optional then 63 ∷ [] else []) ++ name ++ operator relation ++ printed_value value
 
 abbrev pub printed_clause : Clause → List ℕ
 printed_clause clause = printed_parts clause.optional clause.name clause.relation clause.value

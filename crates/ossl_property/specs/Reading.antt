@@ -1,6 +1,8 @@
--- What the reader's private methods give, token by token: a value and the text behind it, or the text from the token on that cannot stand there.
--- A device of the proofs: public clauses cite it only as Said.antt does, whose law says by Grammar.antt and Fault.antt what it gives.
-use Rattle.std.specs.Prelude.{◌≡◌, ℕ, zero, suc, ◌-◌, ◌==◌, Bool, true, false, not, ◌&&◌, Option, Some, None, Result, Ok, Err, List, [], ◌∷◌, ◌++◌, length, drop, if◌then◌else◌}
+-- What the reader's private methods give, token by token: a value and the text behind it, or the text from the token on
+-- that cannot stand there. A device of the proofs: public clauses cite it only as Said.antt does, whose law says by
+-- Grammar.antt and Fault.antt what it gives.
+use Rattle.std.specs.Prelude.{◌≡◌, ℕ, zero, suc, ◌-◌, ◌==◌, Bool, true, false, not, ◌&&◌, Option, Some, None, Result}
+use Rattle.std.specs.Prelude.{Ok, Err, List, [], ◌∷◌, ◌++◌, length, drop, if◌then◌else◌}
 use Rattle.std.specs.Char.{is_ascii_alphabetic}
 use Rattle.std.specs.Option.{option_map}
 use Rattle.ossl_property.specs.declared.clause.Value.{Value}
@@ -17,7 +19,8 @@ use Rattle.ossl_property.specs.declared.reader.Prefix.{Prefix}
 use Rattle.ossl_property.specs.declared.reader.Prefix.TheVariants as prefixes
 use Rattle.ossl_property.specs.declared.reader.Refusal.{Refusal}
 use Rattle.ossl_property.specs.declared.reader.Refusal.TheVariants as refusals
-use Rattle.ossl_property.specs.Bytes.{is_space, is_quote, is_name_byte, is_value_byte, is_plain_byte, is_quoted_byte, folded, front, past}
+use Rattle.ossl_property.specs.Bytes.{is_space, is_quote, is_name_byte, is_value_byte, is_plain_byte, is_quoted_byte}
+use Rattle.ossl_property.specs.Bytes.{folded, front, past}
 use Rattle.ossl_property.specs.Printed.{keeps}
 use Rattle.ossl_property.specs.Grammar.{is_name, number_of, is_plain, is_quotable, yes, no_value, mentions}
 
@@ -47,12 +50,15 @@ Gives view (Err e) rest read = Fails e rest read
 
 -- a name that is not taken yet
 unfoldable pub name_at : (List ℕ → Bool) → List ℕ → Result (List ℕ × List ℕ) (List ℕ)
-name_at taken text = if is_name (front is_name_byte text) && not (taken (folded (front is_name_byte text))) then Ok (folded (front is_name_byte text), past is_name_byte text) else Err text
+name_at taken text = if is_name (front is_name_byte text) && not (taken (folded (front is_name_byte text)))
+    then Ok (folded (front is_name_byte text), past is_name_byte text) else Err text
 
 -- a value without quotes
 unfoldable pub plain_value : List ℕ → Option Value
 plain_value [] = None
-plain_value (byte ∷ word) = if is_ascii_alphabetic byte then (if is_plain (byte ∷ word) then Some (Text (folded (byte ∷ word))) else None) else option_map Number (number_of (byte ∷ word))
+plain_value (byte ∷ word) =
+    if is_ascii_alphabetic byte then (if is_plain (byte ∷ word) then Some (Text (folded (byte ∷ word))) else None)
+    else option_map Number (number_of (byte ∷ word))
 
 -- a value and the text behind it, or the fault
 abbrev pub or_fault : List ℕ → List ℕ → Option Value → Result (Value × List ℕ) (List ℕ)
@@ -69,7 +75,8 @@ closed_at quote whole inner (close ∷ rest) = if is_quotable quote inner then O
 
 -- a string behind its first quote, in a text that begins with that quote
 abbrev pub quoted_at : ℕ → List ℕ → List ℕ → Result (Value × List ℕ) (List ℕ)
-quoted_at quote whole text = closed_at quote whole (front (λ byte. not (byte == quote)) text) (past (λ byte. not (byte == quote)) text)
+quoted_at quote whole text =
+    closed_at quote whole (front (λ byte. not (byte == quote)) text) (past (λ byte. not (byte == quote)) text)
 
 unfoldable pub value_at : List ℕ → Result (Value × List ℕ) (List ℕ)
 value_at [] = Err []
@@ -92,19 +99,27 @@ begins_differ (byte ∷ next ∷ text) = byte == 33 && next == 61
 -- what stands behind a name: an operator and a value, or nothing
 unfoldable pub comparison_at : Language → List ℕ → Result (Relation × Value × List ℕ) (List ℕ)
 comparison_at language [] = Ok (Equal, yes, [])
-comparison_at language (byte ∷ text) = if byte == 61 then compared_at Equal text else if is_query language && begins_differ (byte ∷ text) then compared_at Differ (drop 1 text) else Ok (Equal, yes, byte ∷ text)
+comparison_at language (byte ∷ text) =
+    if byte == 61 then compared_at Equal text else if is_query language && begins_differ (byte ∷ text)
+    then compared_at Differ (drop 1 text) else Ok (Equal, yes, byte ∷ text)
 
 -- a clause behind its prefix
 unfoldable pub named_at : Language → (List ℕ → Bool) → Bool → List ℕ → Result (Clause × List ℕ) (List ℕ)
-named_at language taken optional text = name_at taken text >>= λ name. comparison_at language (past is_space name.1) >>= λ behind. Ok (record { name = name.0; relation = behind.0; value = behind.1; optional = optional }, behind.2)
+named_at language taken optional text =
+    name_at taken text >>= λ name. comparison_at language (past is_space name.1) >>= λ behind. Ok
+    (record { name = name.0; relation = behind.0; value = behind.1; optional = optional }, behind.2)
 
 unfoldable pub removal_at : (List ℕ → Bool) → List ℕ → Result (Clause × List ℕ) (List ℕ)
-removal_at taken text = name_at taken text >>= λ name. Ok (record { name = name.0; relation = Remove; value = no_value; optional = false }, name.1)
+removal_at taken text = name_at taken text >>= λ name. Ok
+    (record { name = name.0; relation = Remove; value = no_value; optional = false }, name.1)
 
 -- `?` or `-` and the spaces behind it, or neither
 abbrev pub prefix_at : Language → List ℕ → Prefix × List ℕ
 prefix_at language [] = (prefixes.Bare, [])
-prefix_at language (byte ∷ text) = if is_query language && byte == 63 then (prefixes.Optional, past is_space text) else if is_query language && byte == 45 then (prefixes.Removal, past is_space text) else (prefixes.Bare, byte ∷ text)
+prefix_at language (byte ∷ text) =
+    if is_query language && byte == 63 then (prefixes.Optional, past is_space text)
+    else if is_query language && byte == 45 then (prefixes.Removal, past is_space text)
+    else (prefixes.Bare, byte ∷ text)
 
 abbrev pub prefixed_at : Language → (List ℕ → Bool) → Prefix → List ℕ → Result (Clause × List ℕ) (List ℕ)
 prefixed_at language taken prefixes.Bare text = named_at language taken false text
@@ -119,12 +134,16 @@ clause_at language taken text = prefixed_at language taken (prefix_at language t
 unfoldable pub more_at : ℕ → Language → List Clause → List ℕ → Result (List Clause) (List ℕ)
 more_at zero language clauses text = Err text
 more_at (suc fuel) language clauses [] = Ok clauses
-more_at (suc fuel) language clauses (byte ∷ text) = if byte == 44 then (clause_at language (mentions clauses) (past is_space text) >>= λ next. more_at fuel language (clauses ++ next.0 ∷ []) (past is_space next.1)) else Err (byte ∷ text)
+more_at (suc fuel) language clauses (byte ∷ text) =
+    if byte == 44 then (clause_at language (mentions clauses) (past is_space text) >>= λ next. more_at fuel language
+    (clauses ++ next.0 ∷ []) (past is_space next.1)) else Err (byte ∷ text)
 
 -- a whole text, without the spaces at its front
 unfoldable pub list_at : Language → List ℕ → Result (List Clause) (List ℕ)
 list_at language [] = Ok []
-list_at language (byte ∷ text) = clause_at language (λ name. false) (byte ∷ text) >>= λ first. more_at (suc (suc (length text))) language (first.0 ∷ []) (past is_space first.1)
+list_at language (byte ∷ text) =
+    clause_at language (λ name. false) (byte ∷ text) >>= λ first. more_at (suc (suc (length text))) language
+    (first.0 ∷ []) (past is_space first.1)
 
 -- reading stopped this far in a text of this size
 abbrev pub Stops : ℕ → Result (List Clause) (List ℕ) → ℕ → Type 0

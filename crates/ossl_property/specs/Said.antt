@@ -1,4 +1,5 @@
--- What a text says, as a value: the list that the grammar relates to it, or the place of its first fault. That it is these is a law of both `parse`.
+-- What a text says, as a value: the list that the grammar relates to it, or the place of its first fault. That it is
+-- these is a law of both `parse`.
 use Rattle.std.specs.Prelude.{◌≡◌, ◌↔◌, ℕ, ◌-◌, Result, Ok, Err, List, length, map}
 use Rattle.ossl_property.specs.declared.clause.TextRefused.{TextRefused}
 use Rattle.ossl_property.specs.declared.clause.TextRefused.TheVariants.{NotInGrammar, NoMemory}
@@ -25,7 +26,8 @@ definition_said text = said_of (map property_of) (length text) (list_at Definiti
 
 -- a text says exactly what the grammar relates to it, and has its fault exactly where that is
 abbrev pub Says : {A : Type 0} → Result A ℕ → (A → Type 0) → (ℕ → Type 0) → Type 0
-Says {A} said IsList IsPlace = ((found : A) → (said ≡ Ok found) ↔ IsList found) × ((place : ℕ) → (said ≡ Err place) ↔ IsPlace place)
+Says {A} said IsList IsPlace =
+    ((found : A) → (said ≡ Ok found) ↔ IsList found) × ((place : ℕ) → (said ≡ Err place) ↔ IsPlace place)
 
 abbrev pub SaysQuery : List ℕ → Type 0
 SaysQuery text = Says (query_said text) (IsQuery text) (IsQueryFault text)

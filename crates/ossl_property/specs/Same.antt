@@ -20,7 +20,8 @@ same_need a b = if a then b else not b
 
 -- the same name, operator and value, and both optional or both mandatory
 abbrev pub same_clause : Clause → Clause → Bool
-same_clause a b = bytes_eq a.name b.name && same_relation a.relation b.relation && is_same a.value b.value && same_need a.optional b.optional
+same_clause a b = bytes_eq a.name b.name && same_relation a.relation b.relation && is_same a.value b.value && same_need
+    a.optional b.optional
 
 -- the same clauses in the same order
 abbrev pub same_query : List Clause → List Clause → Bool

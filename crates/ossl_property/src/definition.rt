@@ -42,7 +42,8 @@ impl Definition {
         ensures faulty { (place : ℕ) → IsDefinitionFault text.now place → Refuses result place }
         // Each text has one list or one fault, and none has both.
         ensures one { HasOne (IsDefinition text.now) ⊎ HasOne (IsDefinitionFault text.now) }
-        ensures apart { (definition : List Property) (place : ℕ) → IsDefinition text.now definition → IsDefinitionFault text.now place → ⊥ }
+        ensures apart { (definition : List Property) (place : ℕ) → IsDefinition text.now definition
+            → IsDefinitionFault text.now place → ⊥ }
     {
         let clauses = parsed(alloc, text, Language::Definitions)?;
         let properties = properties_of(alloc, clauses)?;
@@ -53,7 +54,8 @@ impl Definition {
     /// definition, where some text is.
     pub fn print(&self, alloc: Global) -> Result<Text, AllocError>
         ensures text { IfOk result (λ text. text ≡ printed_definition self.now) }
-        ensures reads { (said : List ℕ) → IsDefinition said self.now → IfOk result (λ text. IsDefinition text self.now) }
+        ensures reads { (said : List ℕ) → IsDefinition said self.now
+            → IfOk result (λ text. IsDefinition text self.now) }
     {
         let text = self.text(alloc)?;
         Ok(text)

@@ -39,7 +39,8 @@ fn put_asking(
     clauses: &[Clause],
     without: &Names,
 ) -> Result<(), AllocError>
-    ensures { OnOk result (out.new.items ≡ out.old.items ++ filter (λ clause. asks clause && not (has without.now clause.name)) clauses.now) }
+    ensures { OnOk result (out.new.items ≡ out.old.items
+        ++ filter (λ clause. asks clause && not (has without.now clause.name)) clauses.now) }
 {
     for clause in clauses {
         if clause.relation != Relation::Remove && !without.contains(clause.name.as_slice()) {

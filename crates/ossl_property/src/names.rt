@@ -30,7 +30,8 @@ impl Names {
     /// Adds a name, and says whether it is new.
     pub fn insert(&mut self, alloc: Global, name: &[u8]) -> Result<bool, AllocError>
         ensures added { IfOk result (λ added. added ≡ not (has self.old name.now)) }
-        ensures names { IfOk result (λ added. (other : List ℕ) → has self.new other ≡ (has self.old other || bytes_eq name.now other)) }
+        ensures names { IfOk result
+            (λ added. (other : List ℕ) → has self.new other ≡ (has self.old other || bytes_eq name.now other)) }
     {
         let key = Vec::from_slice(alloc, name)?;
         Ok(self.kept.insert(key)?)

@@ -12,7 +12,8 @@ use std::alloc::{AllocError, Global};
 /// The clauses of a text.
 pub fn parsed(alloc: Global, text: &[u8], language: Language) -> Result<Vec<Clause>, TextRefused>
     ensures found { IfOk result (λ clauses. list_at language (past is_space text.now) ≡ Ok clauses.items) }
-    ensures refused { IfErr result (λ refusal. IsRefusal refusal (Stops (length text.now) (list_at language (past is_space text.now)))) }
+    ensures refused { IfErr result
+        (λ refusal. IsRefusal refusal (Stops (length text.now) (list_at language (past is_space text.now)))) }
 {
     let mut reader = Reader { rest: text };
     match reader.clauses(alloc, language) {

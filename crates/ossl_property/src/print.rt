@@ -4,7 +4,8 @@ ghost use Rattle.std.specs.Prelude.{◌≡◌, ℕ, ◌++◌, ◌∷◌, [], Lis
 ghost use Rattle.std.specs.Fmt.{signed_decimal};
 ghost use Rattle.std.specs.List.{join_with_byte};
 ghost use Rattle.ossl_property.specs.Grammar.{asked};
-ghost use Rattle.ossl_property.specs.Printed.{stands_bare, quote_of, printed_string, printed_value, printed_parts, printed_clause};
+ghost use Rattle.ossl_property.specs.Printed.{stands_bare, quote_of, printed_string, printed_value, printed_parts};
+ghost use Rattle.ossl_property.specs.Printed.{printed_clause};
 
 use crate::clause::{Clause, Property, Relation, Value};
 use crate::word::{Class, is_all};

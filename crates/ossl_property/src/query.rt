@@ -40,6 +40,13 @@ impl Query {
         }
     }
 
+    /// Its clauses, in order.
+    pub fn clauses(&self) -> &[Clause]
+        ensures clauses { result.now ≡ self.now }
+    {
+        self.clauses.as_slice()
+    }
+
     /// Reads a query. A text outside the grammar is refused with the place of its first fault.
     pub fn parse(alloc: Global, text: &[u8]) -> Result<Query, TextRefused>
         ensures found { IfOk result (λ query. IsQuery text.now query) }

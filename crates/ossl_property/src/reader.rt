@@ -5,7 +5,9 @@ ghost use Rattle.std.specs.Str.{bytes_eq};
 ghost use Rattle.ossl_property.specs.Bytes.{past, is_space};
 ghost use Rattle.ossl_property.specs.Grammar.{mentions};
 ghost use Rattle.ossl_property.specs.Names.{has};
-ghost use Rattle.ossl_property.specs.Reading.{Fails, Gives, is_query, name_at, plain_at, quoted_at, value_at, compared_at, comparison_at, named_at, removal_at, prefix_at, clause_at, more_at, list_at};
+ghost use Rattle.ossl_property.specs.Reading.{Fails, Gives, is_query, name_at, plain_at, quoted_at, value_at};
+ghost use Rattle.ossl_property.specs.Reading.{compared_at, comparison_at, named_at, removal_at, prefix_at, clause_at};
+ghost use Rattle.ossl_property.specs.Reading.{more_at, list_at};
 ghost use Rattle.ossl_property.specs.declared.reader.Refusal.TheVariants.{NoMemory};
 
 use crate::clause::{Clause, Relation, Value};
@@ -87,8 +89,10 @@ impl<'a> Reader<'a> {
     /// A name that did not stand before.
     #[tactic(auto, unfolding(crate::specs::Reading::name_at))]
     fn name(&mut self, alloc: Global, names: &mut Names) -> Result<Text, Refusal>
-        ensures name { Gives (λ name. (name, self.new.rest.now)) result self.new.rest.now (name_at (has names.old) self.old.rest.now) }
-        ensures names { IfOk result (λ name. (other : List ℕ) → has names.new other ≡ (has names.old other || bytes_eq name other)) }
+        ensures name { Gives (λ name. (name, self.new.rest.now)) result self.new.rest.now
+            (name_at (has names.old) self.old.rest.now) }
+        ensures names { IfOk result
+            (λ name. (other : List ℕ) → has names.new other ≡ (has names.old other || bytes_eq name other)) }
     {
         let (word, rest) = self.rest.split_at(run_length(Class::Name, self.rest));
         if !is_name(word) {
@@ -119,7 +123,8 @@ impl<'a> Reader<'a> {
 
     /// A string behind its first quote.
     fn quoted(&mut self, alloc: Global, quote: u8, text: &'a [u8]) -> Result<Value, Refusal>
-        ensures { Gives (λ value. (value, self.new.rest.now)) result self.new.rest.now (quoted_at quote self.old.rest.now text.now) }
+        ensures { Gives (λ value. (value, self.new.rest.now)) result self.new.rest.now
+            (quoted_at quote self.old.rest.now text.now) }
     {
         let (inner, behind) = text.split_at(run_length(Class::Within(quote), text));
         match behind {
@@ -147,7 +152,8 @@ impl<'a> Reader<'a> {
 
     /// The value behind an operator.
     fn compared(&mut self, alloc: Global, relation: Relation) -> Result<(Relation, Value), Refusal>
-        ensures { Gives (λ x. (x.0, x.1, self.new.rest.now)) result self.new.rest.now (compared_at relation self.old.rest.now) }
+        ensures { Gives (λ x. (x.0, x.1, self.new.rest.now)) result self.new.rest.now
+            (compared_at relation self.old.rest.now) }
     {
         self.skip_spaces();
         let value = self.value(alloc)?;
@@ -161,7 +167,8 @@ impl<'a> Reader<'a> {
         alloc: Global,
         language: Language,
     ) -> Result<(Relation, Value), Refusal>
-        ensures { Gives (λ x. (x.0, x.1, self.new.rest.now)) result self.new.rest.now (comparison_at language (past is_space self.old.rest.now)) }
+        ensures { Gives (λ x. (x.0, x.1, self.new.rest.now)) result self.new.rest.now
+            (comparison_at language (past is_space self.old.rest.now)) }
     {
         self.skip_spaces();
         match self.rest {
@@ -189,8 +196,10 @@ impl<'a> Reader<'a> {
         names: &mut Names,
         optional: bool,
     ) -> Result<Clause, Refusal>
-        ensures clause { Gives (λ clause. (clause, self.new.rest.now)) result self.new.rest.now (named_at language (has names.old) optional self.old.rest.now) }
-        ensures names { IfOk result (λ clause. (other : List ℕ) → has names.new other ≡ (has names.old other || bytes_eq clause.name other)) }
+        ensures clause { Gives (λ clause. (clause, self.new.rest.now)) result self.new.rest.now
+            (named_at language (has names.old) optional self.old.rest.now) }
+        ensures names { IfOk result
+            (λ clause. (other : List ℕ) → has names.new other ≡ (has names.old other || bytes_eq clause.name other)) }
     {
         let name = self.name(alloc, names)?;
         let (relation, value) = self.comparison(alloc, language)?;
@@ -204,8 +213,10 @@ impl<'a> Reader<'a> {
 
     #[tactic(auto, unfolding(crate::specs::Reading::removal_at))]
     fn removal(&mut self, alloc: Global, names: &mut Names) -> Result<Clause, Refusal>
-        ensures clause { Gives (λ clause. (clause, self.new.rest.now)) result self.new.rest.now (removal_at (has names.old) self.old.rest.now) }
-        ensures names { IfOk result (λ clause. (other : List ℕ) → has names.new other ≡ (has names.old other || bytes_eq clause.name other)) }
+        ensures clause { Gives (λ clause. (clause, self.new.rest.now)) result self.new.rest.now
+            (removal_at (has names.old) self.old.rest.now) }
+        ensures names { IfOk result
+            (λ clause. (other : List ℕ) → has names.new other ≡ (has names.old other || bytes_eq clause.name other)) }
     {
         let name = self.name(alloc, names)?;
         Ok(Clause {
@@ -242,8 +253,10 @@ impl<'a> Reader<'a> {
         language: Language,
         names: &mut Names,
     ) -> Result<Clause, Refusal>
-        ensures clause { Gives (λ clause. (clause, self.new.rest.now)) result self.new.rest.now (clause_at language (has names.old) self.old.rest.now) }
-        ensures names { IfOk result (λ clause. (other : List ℕ) → has names.new other ≡ (has names.old other || bytes_eq clause.name other)) }
+        ensures clause { Gives (λ clause. (clause, self.new.rest.now)) result self.new.rest.now
+            (clause_at language (has names.old) self.old.rest.now) }
+        ensures names { IfOk result
+            (λ clause. (other : List ℕ) → has names.new other ≡ (has names.old other || bytes_eq clause.name other)) }
     {
         match self.prefix(language) {
             Prefix::Bare => self.named(alloc, language, names, false),
@@ -263,8 +276,12 @@ impl<'a> Reader<'a> {
     ) -> Result<(), Refusal>
         requires left { 0 < length self.old.rest.now }
         requires names { has names.old ≡ mentions clauses.old.items }
-        ensures ok { OnOk result ((fuel : ℕ) → more_at (fuel + 1) language clauses.old.items self.old.rest.now ≡ more_at fuel language clauses.new.items self.new.rest.now) }
-        ensures err { IfErr result (λ e. (fuel : ℕ) → Fails e self.new.rest.now (more_at (fuel + 1) language clauses.old.items self.old.rest.now)) }
+        ensures ok { OnOk result
+            ((fuel : ℕ) → more_at (fuel + 1) language clauses.old.items self.old.rest.now
+            ≡ more_at fuel language clauses.new.items self.new.rest.now) }
+        ensures err { IfErr result
+            (λ e. (fuel : ℕ) → Fails e self.new.rest.now
+            (more_at (fuel + 1) language clauses.old.items self.old.rest.now)) }
         ensures names { OnOk result (has names.new ≡ mentions clauses.new.items) }
         ensures less { OnOk result (length self.new.rest.now < length self.old.rest.now) }
     {
@@ -282,7 +299,8 @@ impl<'a> Reader<'a> {
     /// The clauses of a whole text.
     #[tactic(auto, unfolding(crate::specs::Reading::list_at))]
     pub fn clauses(&mut self, alloc: Global, language: Language) -> Result<Vec<Clause>, Refusal>
-        ensures { Gives (λ clauses. clauses.items) result self.new.rest.now (list_at language (past is_space self.old.rest.now)) }
+        ensures { Gives (λ clauses. clauses.items) result self.new.rest.now
+            (list_at language (past is_space self.old.rest.now)) }
     {
         self.skip_spaces();
         let mut clauses = Vec::new(alloc);

@@ -3,7 +3,8 @@
 ghost use Rattle.std.specs.Prelude.{◌≡◌, ℕ, ◌<◌, ◌≤◌, ◌^◌, List, length, drop, take, Some, IfOk, IfSome, IfNone};
 ghost use Rattle.std.specs.List.{list_all};
 ghost use Rattle.ossl_property.specs.Bytes.{front, past, folded};
-ghost use Rattle.ossl_property.specs.Grammar.{may_stand, is_name, digit_of, digits_value, not_negative, negative, number_of, is_plain, is_quotable};
+ghost use Rattle.ossl_property.specs.Grammar.{may_stand, is_name, digit_of, digits_value, not_negative, negative};
+ghost use Rattle.ossl_property.specs.Grammar.{number_of, is_plain, is_quotable};
 ghost use Rattle.ossl_property.specs.Reading.{in_class, plain_value};
 
 use crate::clause::Value;

@@ -1,5 +1,6 @@
 -- Which of the offered rows a fetch takes (property(7), provider(7)).
-use Rattle.std.specs.Prelude.{ℕ, Bool, ◌&&◌, nat_eq, nat_lt, List, filter, map, fold, Option, None, Some, option_map, if◌then◌else◌}
+use Rattle.std.specs.Prelude.{ℕ, Bool, ◌&&◌, nat_eq, nat_lt, List, filter, map, fold, Option, None, Some, option_map}
+use Rattle.std.specs.Prelude.{if◌then◌else◌}
 use Rattle.std.specs.List.{flat_map}
 use Rattle.ossl_codes.specs.declared.code.Code.{Code}
 use Rattle.ossl_codes.specs.declared.code.Operation.{Operation}
@@ -49,4 +50,5 @@ best_from best query cs = fold (λ b c. better b (scored query c)) best cs
 
 -- of the rows with a score the one with the greatest; of these the one of the least rank, and of its rows the first
 abbrev pub best_offered : Operation → ℕ → List Clause → List Offering → Option (ℕ × ℕ × Code)
-best_offered op number query offerings = option_map (λ b. b.choice) (best_from None query (candidates op number offerings))
+best_offered op number query offerings =
+    option_map (λ b. b.choice) (best_from None query (candidates op number offerings))

@@ -3,7 +3,8 @@ use Rattle.std.specs.Prelude.{ℕ, Bool, not, nat_eq, nat_lt, List, [], ◌∷�
 use Rattle.std.specs.List.{list_any}
 use Rattle.ossl_store.specs.declared.offered.Offered.{Offered}
 
--- the rows of an active instance, in its provider's order; its rank says where the provider stands in the order of activation
+-- the rows of an active instance, in its provider's order; its rank says where the provider stands in the order of
+-- activation
 pub record Offering : Type 0 where
   pub instance : ℕ
   pub rank : ℕ

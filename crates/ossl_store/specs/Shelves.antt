@@ -1,5 +1,6 @@
 -- Where rows stand in a store's index: under their operation and number, and there by the rank of their offering.
-use Rattle.std.specs.Prelude.{◌≡◌, ℕ, ◌+◌, Bool, false, ◌&&◌, nat_eq, List, [], ◌∷◌, Vec, Option, None, Some, if◌then◌else◌}
+use Rattle.std.specs.Prelude.{◌≡◌, ℕ, ◌+◌, Bool, false, ◌&&◌, nat_eq, List, [], ◌∷◌, Vec, Option, None, Some}
+use Rattle.std.specs.Prelude.{if◌then◌else◌}
 use Rattle.std.specs.List.{list_any}
 use Rattle.std.specs.BTreeMap.{BTreeMap, get}
 use Rattle.std.specs.Ordering.{nat_cmp}
@@ -57,7 +58,9 @@ pub record ShelfChanges (old new : Shelf) (number rank : ℕ) (places : List ℕ
   pub at : (n r : ℕ) → places_on new n r ≡ (if nat_eq number n && nat_eq rank r then places else places_on old n r)
 
 pub record ShelvesChange (old new : Shelves) (op : Operation) (number rank : ℕ) (places : List ℕ) : Type 0 where
-  pub at : (o : Operation) (n r : ℕ) → places_at new o n r ≡ (if same_operation op o && nat_eq number n && nat_eq rank r then places else places_at old o n r)
+  pub at : (o : Operation) (n r : ℕ)
+      → places_at new o n r ≡ (if same_operation op o && nat_eq number n && nat_eq rank r then places
+      else places_at old o n r)
 
 -- both have the same places
 pub record IsSameRuns (old new : Runs) : Type 0 where
@@ -80,19 +83,23 @@ pub record IsClear (shelves : Shelves) (rank : ℕ) : Type 0 where
 -- the places, counted from a number on, of the rows that pass a test
 abbrev pub positions_from : (Offered → Bool) → ℕ → List Offered → List ℕ
 positions_from test k [] = []
-positions_from test k (row ∷ rows) = if test row then k ∷ positions_from test (k + 1) rows else positions_from test (k + 1) rows
+positions_from test k (row ∷ rows) =
+    if test row then k ∷ positions_from test (k + 1) rows else positions_from test (k + 1) rows
 
 abbrev pub positions : (Offered → Bool) → List Offered → List ℕ
 positions test rows = positions_from test 0 rows
 
 -- the rows of an offering stand at its rank, each under its operation and number, and others where they stood
 pub record AreShelved (old new : Shelves) (rank : ℕ) (rows : List Offered) : Type 0 where
-  pub at : (o : Operation) (n r : ℕ) → places_at new o n r ≡ (if nat_eq rank r then positions (is_under o n) rows else places_at old o n r)
+  pub at : (o : Operation) (n r : ℕ)
+      → places_at new o n r ≡ (if nat_eq rank r then positions (is_under o n) rows else places_at old o n r)
 
 -- at most places that the rows have at their rank changed
 pub record KeepsOthers (old new : Shelves) (rank : ℕ) (rows : List Offered) : Type 0 where
-  pub at : (o : Operation) (n r : ℕ) → (nat_eq rank r && list_any (is_under o n) rows) ≡ false → places_at new o n r ≡ places_at old o n r
+  pub at : (o : Operation) (n r : ℕ) → (nat_eq rank r && list_any (is_under o n) rows) ≡ false
+      → places_at new o n r ≡ places_at old o n r
 
 -- the rows of an offering stand nowhere at its rank
 pub record AreGone (old new : Shelves) (rank : ℕ) (rows : List Offered) : Type 0 where
-  pub at : (o : Operation) (n r : ℕ) → places_at new o n r ≡ (if nat_eq rank r && list_any (is_under o n) rows then [] else places_at old o n r)
+  pub at : (o : Operation) (n r : ℕ)
+      → places_at new o n r ≡ (if nat_eq rank r && list_any (is_under o n) rows then [] else places_at old o n r)

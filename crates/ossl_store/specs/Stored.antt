@@ -32,6 +32,9 @@ rows_at offers rank = rows_of (get nat_cmp offers rank)
 -- each instance is known by its rank, and the rows stand on the shelves by their places
 pub record IsStored (ranks : BTreeMap ℕ ℕ) (offers : Offers) (shelves : Shelves) : Type 0 where
   pub ordered : IsOrdered nat_cmp offers
-  pub ranked : (rank : ℕ) (offer : Offer) → get nat_cmp offers rank ≡ Some offer → get nat_cmp ranks offer.instance ≡ Some rank
-  pub known : (instance rank : ℕ) → get nat_cmp ranks instance ≡ Some rank → option_map (λ offer. offer.instance) (get nat_cmp offers rank) ≡ Some instance
-  pub shelved : (op : Operation) (number rank : ℕ) → places_at shelves op number rank ≡ positions (is_under op number) (rows_at offers rank)
+  pub ranked : (rank : ℕ) (offer : Offer) → get nat_cmp offers rank ≡ Some offer
+      → get nat_cmp ranks offer.instance ≡ Some rank
+  pub known : (instance rank : ℕ) → get nat_cmp ranks instance ≡ Some rank
+      → option_map (λ offer. offer.instance) (get nat_cmp offers rank) ≡ Some instance
+  pub shelved : (op : Operation) (number rank : ℕ)
+      → places_at shelves op number rank ≡ positions (is_under op number) (rows_at offers rank)

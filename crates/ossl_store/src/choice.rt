@@ -69,7 +69,8 @@ fn best_of_run<L: Ledger>(
     query: &Query,
     steps: &mut Steps<L>,
 ) -> Option<Scored>
-    ensures best { result ≡ best_from best query.now (map (candidate offer.now.instance) (picked offer.now.rows.items places.now)) }
+    ensures best { result ≡ best_from best query.now
+        (map (candidate offer.now.instance) (picked offer.now.rows.items places.now)) }
     ensures steps { steps.new ≡ steps.old + length query.now * length (picked offer.now.rows.items places.now) }
 {
     let mut best = best;

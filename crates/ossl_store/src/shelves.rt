@@ -140,7 +140,8 @@ fn put_on_shelf(
     rank: u64,
     place: usize,
 ) -> Result<(), AllocError>
-    ensures ok { OnOk result (ShelfChanges shelf.old shelf.new number rank (places_on shelf.old number rank ++ place ∷ [])) }
+    ensures ok { OnOk result
+        (ShelfChanges shelf.old shelf.new number rank (places_on shelf.old number rank ++ place ∷ [])) }
     ensures err { OnErr result (IsSameShelf shelf.old shelf.new) }
 {
     match shelf.get_mut(&number) {

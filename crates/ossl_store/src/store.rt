@@ -54,12 +54,13 @@ impl Store {
         }
     }
 
-    /// Adds the rows of an active instance, in its provider's order. Its rank stands for the provider's place in the order
-    /// of activation: of equal scores the least rank wins. Without memory the store is as it was.
+    /// Adds the rows of an active instance, in its provider's order. Its rank stands for the provider's place in the
+    /// order of activation: of equal scores the least rank wins. Without memory the store is as it was.
     pub fn offer(&mut self, instance: u64, rank: u64, rows: Vec<Offered>) -> Result<(), AllocError>
         requires new_instance { has_instance instance self.old ≡ false }
         requires new_rank { has_rank rank self.old ≡ false }
-        ensures ok { OnOk result (self.new ≡ placed (record { instance = instance; rank = rank; rows = rows.items }) self.old) }
+        ensures ok { OnOk result
+            (self.new ≡ placed (record { instance = instance; rank = rank; rows = rows.items }) self.old) }
         ensures err { OnErr result (self.new ≡ self.old) }
     {
         self.ranks.insert(instance, rank)?;

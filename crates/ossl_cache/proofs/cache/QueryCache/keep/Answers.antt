@@ -3,7 +3,7 @@ use Rattle.std.specs.Vec.{with_items}
 use Rattle.std.proofs.lemmas.List.{length-set}
 use Rattle.std.proofs.lemmas.List.{length-map}
 use Rattle.lru.specs.LruCache.{promoted}
-use Rattle.ossl_cache.specs.Recent.{Answer, same_key, without, most}
+use Rattle.ossl_cache.specs.Recent.{Answer, same_key, without, with_answer, most}
 use Rattle.ossl_cache.specs.Places.{shown, emptied, are_places, next_place}
 use Rattle.ossl_cache.proofs.Making.{emptied-shows, emptied-items}
 use Rattle.ossl_cache.proofs.Placing.{next_of, next_below, shown-new, promoted_length, promoted_places}
@@ -18,7 +18,8 @@ index_mut-requires c =
 pub invariant_of-self : goal.invariant_of-self
 invariant_of-self c =
     let es = c.self.inside.order.entries in
-    let test = λ (a : Answer). same_key c.args.key a.0 in
+    let answer = c.new-held.result in
+    let test = λ (a : Answer). same_key answer.0 a.0 in
     let changed = c.empty.ensures ∙ ap (λ s. map (emptied test) s) c.deref_mut.ensures.value in
     let emptied_now = (with_items c.self.inside.slots c.empty.new.slots).items in
     let place = next_place emptied_now es in
@@ -26,7 +27,7 @@ invariant_of-self c =
     let next = next_of emptied_now es c.self.invariant.all c.self.invariant.once in
     let new : c.promote.new.self.entries ≡ promoted (nat_eq place) es = ap (λ o. o.entries) c.promote.ensures.entries ∙ ap (λ p. promoted (nat_eq p) es) chosen in
     record {
-      room = length-set emptied_now c.next_place-free.result (Some (c.args.key, c.args.kept)) ∙ ap length (emptied-items c.self.inside.slots test c.empty.new.slots changed) ∙ length-map c.self.inside.slots.items (emptied test) ∙ c.self.invariant.room;
+      room = length-set emptied_now c.next_place-free.result (Some answer) ∙ ap length (emptied-items c.self.inside.slots test c.empty.new.slots changed) ∙ length-map c.self.inside.slots.items (emptied test) ∙ c.self.invariant.room;
       all = ap length new ∙ promoted_length place es next.entry ∙ c.self.invariant.all;
       once = ap are_places new ∙ promoted_places place es c.self.invariant.once next.entry;
     }
@@ -34,8 +35,8 @@ invariant_of-self c =
 pub returns : goal.returns
 returns c =
     let es = c.self.inside.order.entries in
-    let test = λ (a : Answer). same_key c.args.key a.0 in
-    let answer : Answer = (c.args.key, c.args.kept) in
+    let answer = c.new-held.result in
+    let test = λ (a : Answer). same_key answer.0 a.0 in
     let changed = c.empty.ensures ∙ ap (λ s. map (emptied test) s) c.deref_mut.ensures.value in
     let emptied_now = (with_items c.self.inside.slots c.empty.new.slots).items in
     let room : length emptied_now ≡ most = ap length (emptied-items c.self.inside.slots test c.empty.new.slots changed) ∙ length-map c.self.inside.slots.items (emptied test) ∙ c.self.invariant.room in
@@ -44,5 +45,6 @@ returns c =
       first = ap (λ o. shown (slice_set emptied_now c.next_place-free.result (Some answer)) o.entries) c.promote.ensures.entries
           ∙ ap (λ p. shown (slice_set emptied_now p (Some answer)) (promoted (nat_eq p) es)) chosen
           ∙ shown-new emptied_now answer es room c.self.invariant.all c.self.invariant.once
-          ∙ ap (λ as'. answer ∷ take 63 as') (emptied-shows c.self.inside.slots test c.empty.new.slots changed es ∙ ap (without test) c.self.view_is);
+          ∙ ap (λ as'. answer ∷ take 63 as') (emptied-shows c.self.inside.slots test c.empty.new.slots changed es ∙ ap (without test) c.self.view_is)
+          ∙ ap (λ a. with_answer a.0 a.1 c.args.self.now) c.new-held.ensures;
     }
