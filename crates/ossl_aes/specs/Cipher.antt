@@ -1,6 +1,7 @@
 -- The cipher of FIPS 197 on lists of bytes. A state is 16 bytes, filled by columns: row r of column c stands at
 -- r + 4 * c. A key has nk words of four bytes: 4, 6 or 8.
-use Rattle.std.specs.Prelude.{ℕ, zero, suc, ◌+◌, ◌-◌, ◌*◌, ◌/◌, ◌%◌, ◌^◌, List, [], ◌∷◌, ◌++◌, length, map, nat_eq, ◌&&◌, bit_xor, slice_index, if◌then◌else◌}
+use Rattle.std.specs.Prelude.{ℕ, zero, suc, ◌+◌, ◌-◌, ◌*◌, ◌/◌, ◌%◌, ◌^◌, List, [], ◌∷◌, ◌++◌, length, map, nat_eq}
+use Rattle.std.specs.Prelude.{◌&&◌, bit_xor, slice_index, if◌then◌else◌}
 use Rattle.std.specs.Int.{w32, rotate_left, from_be_bytes, to_be_bytes}
 use Rattle.ossl_aes.specs.Field.{mul, power, sub, unsub}
 -- the sum of two texts byte by byte, as long as the shorter one (FIPS 197, 4.1 and 5.1.4)
@@ -64,7 +65,8 @@ next_word nk ws = bit_xor (slice_index ws (length ws - nk)) (temp_word nk (lengt
 
 -- the word at byte i, big-endian
 abbrev pub word_at : List ℕ → ℕ → ℕ
-word_at b i = from_be_bytes w32 (slice_index b i ∷ slice_index b (i + 1) ∷ slice_index b (i + 2) ∷ slice_index b (i + 3) ∷ [])
+word_at b i = from_be_bytes w32
+    (slice_index b i ∷ slice_index b (i + 1) ∷ slice_index b (i + 2) ∷ slice_index b (i + 3) ∷ [])
 
 -- the first n words of the key (FIPS 197, 5.2)
 unfoldable pub key_words : List ℕ → ℕ → List ℕ
@@ -94,7 +96,8 @@ cipher ws nr s = add (shift_rows (map sub (rounds ws s (nr - 1)))) (round_key ws
 -- the state after n of nr rounds of the inverse cipher (FIPS 197, 5.3)
 unfoldable pub inv_rounds : List ℕ → ℕ → List ℕ → ℕ → List ℕ
 inv_rounds ws nr s zero = add s (round_key ws nr)
-inv_rounds ws nr s (suc n) = inv_mix_columns (add (map unsub (inv_shift_rows (inv_rounds ws nr s n))) (round_key ws (nr - (n + 1))))
+inv_rounds ws nr s (suc n) =
+    inv_mix_columns (add (map unsub (inv_shift_rows (inv_rounds ws nr s n))) (round_key ws (nr - (n + 1))))
 
 -- nr rounds of the inverse cipher, the last without the columns' product (FIPS 197, 5.3)
 unfoldable pub inv_cipher : List ℕ → ℕ → List ℕ → List ℕ

@@ -27,7 +27,8 @@ inverse a = power a 254
 -- the affine map: bit i becomes the sum of the bits i, i + 4, i + 5, i + 6, i + 7 and that of 0x63 (FIPS 197, 5.1.1)
 abbrev pub affine : ℕ → ℕ
 affine b =
-    bit_xor (bit_xor (bit_xor (bit_xor (bit_xor b (rotate_left w8 b 1)) (rotate_left w8 b 2)) (rotate_left w8 b 3)) (rotate_left w8 b 4)) 0x63
+    bit_xor (bit_xor (bit_xor (bit_xor (bit_xor b (rotate_left w8 b 1)) (rotate_left w8 b 2)) (rotate_left w8 b 3))
+    (rotate_left w8 b 4)) 0x63
 
 -- the S-box: the inverse, then the affine map (FIPS 197, 5.1.1)
 unfoldable pub sub : ℕ → ℕ

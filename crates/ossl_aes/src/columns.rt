@@ -1,6 +1,7 @@
-//! The bytes of a block, and the state as four words, a column each, top row in the highest byte. A block goes in and out of memory in parts of 4, 4
-//! and 8 bytes, everywhere alike: what is read in the parts in which it was written need not wait for the memory, and
-//! parts that are not all alike are not gathered in a vector register, from which an index is slow to get.
+//! The bytes of a block, and the state as four words, a column each, top row in the highest byte. A block goes in and
+//! out of memory in parts of 4, 4 and 8 bytes, everywhere alike: what is read in the parts in which it was written need
+//! not wait for the memory, and parts that are not all alike are not gathered in a vector register, from which an index
+//! is slow to get.
 
 ghost use Rattle.std.specs.Prelude.{◌≡◌, ◌+◌, ◌*◌, ◌^◌, ◌≤◌, [], ◌∷◌, ◌++◌, length, slice_index, bit_xor};
 ghost use Rattle.std.specs.Int.{w32, w128, to_be_bytes};
@@ -91,7 +92,9 @@ pub fn add(s: [u32; 4], k: [u32; 4]) -> [u32; 4]
 fn sum_4(a: &[u8], b: &[u8], i: usize) -> [u8; 4]
     requires a { i + 4 ≤ length a.now }
     requires b { i + 4 ≤ length b.now }
-    ensures { result ≡ bit_xor (slice_index a.now i) (slice_index b.now i) ∷ bit_xor (slice_index a.now (i + 1)) (slice_index b.now (i + 1)) ∷ bit_xor (slice_index a.now (i + 2)) (slice_index b.now (i + 2)) ∷ bit_xor (slice_index a.now (i + 3)) (slice_index b.now (i + 3)) ∷ [] }
+    ensures { result ≡ bit_xor (slice_index a.now i) (slice_index b.now i) ∷ bit_xor (slice_index a.now (i + 1))
+        (slice_index b.now (i + 1)) ∷ bit_xor (slice_index a.now (i + 2)) (slice_index b.now (i + 2)) ∷ bit_xor
+        (slice_index a.now (i + 3)) (slice_index b.now (i + 3)) ∷ [] }
 {
     let x = u32::from_le_bytes([a[i], a[i + 1], a[i + 2], a[i + 3]]);
     let y = u32::from_le_bytes([b[i], b[i + 1], b[i + 2], b[i + 3]]);
@@ -103,7 +106,12 @@ fn sum_4(a: &[u8], b: &[u8], i: usize) -> [u8; 4]
 fn sum_8(a: &[u8], b: &[u8], i: usize) -> [u8; 8]
     requires a { i + 8 ≤ length a.now }
     requires b { i + 8 ≤ length b.now }
-    ensures { result ≡ bit_xor (slice_index a.now i) (slice_index b.now i) ∷ bit_xor (slice_index a.now (i + 1)) (slice_index b.now (i + 1)) ∷ bit_xor (slice_index a.now (i + 2)) (slice_index b.now (i + 2)) ∷ bit_xor (slice_index a.now (i + 3)) (slice_index b.now (i + 3)) ∷ bit_xor (slice_index a.now (i + 4)) (slice_index b.now (i + 4)) ∷ bit_xor (slice_index a.now (i + 5)) (slice_index b.now (i + 5)) ∷ bit_xor (slice_index a.now (i + 6)) (slice_index b.now (i + 6)) ∷ bit_xor (slice_index a.now (i + 7)) (slice_index b.now (i + 7)) ∷ [] }
+    ensures { result ≡ bit_xor (slice_index a.now i) (slice_index b.now i) ∷ bit_xor (slice_index a.now (i + 1))
+        (slice_index b.now (i + 1)) ∷ bit_xor (slice_index a.now (i + 2)) (slice_index b.now (i + 2)) ∷ bit_xor
+        (slice_index a.now (i + 3)) (slice_index b.now (i + 3)) ∷ bit_xor (slice_index a.now (i + 4))
+        (slice_index b.now (i + 4)) ∷ bit_xor (slice_index a.now (i + 5)) (slice_index b.now (i + 5)) ∷ bit_xor
+        (slice_index a.now (i + 6)) (slice_index b.now (i + 6)) ∷ bit_xor (slice_index a.now (i + 7))
+        (slice_index b.now (i + 7)) ∷ [] }
 {
     let x = u64::from_le_bytes([
         a[i],

@@ -1,5 +1,6 @@
 //! The block cipher AES for keys of 128, 192 and 256 bits, in rounds that read tables.
-//! Encryption and decryption of a block are FIPS 197, and the tables are its field and matrices at every byte (FIPS 197).
+//! Encryption and decryption of a block are FIPS 197, and the tables are its field and matrices at every byte (FIPS
+//! 197).
 //! Nothing takes memory. A block's work grows with the number of rounds, 10, 12 or 14.
 #![tactic(auto)]
 

@@ -1,5 +1,6 @@
-//! The rounds of the cipher on four words that hold the state, a column each, top row in the highest byte. A column is summed
-//! from its bottom row up: the lowest byte of a word is got in one step, so the sum begins with what is there first.
+//! The rounds of the cipher on four words that hold the state, a column each, top row in the highest byte. A column is
+//! summed from its bottom row up: the lowest byte of a word is got in one step, so the sum begins with what is there
+//! first.
 
 ghost use Rattle.std.specs.Prelude.{◌≡◌, ◌<◌, List, [], ◌∷◌};
 ghost use Rattle.std.specs.Int.{w32, to_be_bytes};

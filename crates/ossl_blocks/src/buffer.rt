@@ -65,7 +65,8 @@ impl<const SIZE: usize, const KEPT: usize> Buffer<SIZE, KEPT> {
         requires none { self.old.count ≡ 0 }
         requires enough { KEPT ≤ length bytes.now }
         requires room { T.has_room out.old (whole_len SIZE KEPT (length bytes.now)) }
-        ensures { (done : List ℕ) × IsCut SIZE KEPT bytes.now done (held_of self.new) × T.taken taker.old out.old done taker.new out.new }
+        ensures { (done : List ℕ) × IsCut SIZE KEPT bytes.now done (held_of self.new)
+            × T.taken taker.old out.old done taker.new out.new }
     {
         let whole = (bytes.len() - KEPT) / SIZE * SIZE;
         taker.take(&[], &bytes[..whole], out);

@@ -13,7 +13,8 @@ end_of state bytes = if reaches state bytes then Ok tt else Err (record { blocks
 
 -- what a stream gives of a message that goes on with these bytes: its text, or the refusal
 abbrev pub outcome_of : ChaChaState → List ℕ → Result (List ℕ) StreamEnd
-outcome_of state bytes = if reaches state bytes then Ok (text_of state bytes) else Err (record { blocks = blocks_of state.iv })
+outcome_of state bytes =
+    if reaches state bytes then Ok (text_of state bytes) else Err (record { blocks = blocks_of state.iv })
 
 -- ChaCha20 of a whole message, the same in both directions
 abbrev pub chacha20 : List ℕ → List ℕ → List ℕ → Result (List ℕ) StreamEnd

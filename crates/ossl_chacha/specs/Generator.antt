@@ -14,7 +14,8 @@ generator_at key iv n = record {
   word_pos = 16 * (counter_of iv + n + u32_at iv 1 * 2 ^ 32) % 2 ^ 68;
 }
 
--- each word of each block is the word that a generator gives at its place, which is before the generator's stream repeats
+-- each word of each block is the word that a generator gives at its place, which is before the generator's stream
+-- repeats
 abbrev pub GivesKeyStream : List ℕ → List ℕ → ChaCha → Type 0
 GivesKeyStream key iv generator = (n k : ℕ) → n < blocks_of iv → k < 16
     → (generator.word_pos + 16 * n + k < 2 ^ 68)

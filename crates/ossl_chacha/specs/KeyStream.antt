@@ -1,6 +1,7 @@
 -- The key stream of a key of 32 bytes and an IV of 16, and the text of a message (RFC 8439, 2.4). The IV is the 32-bit
 -- counter of the first block, little-endian, and the 96-bit nonce, as in EVP_chacha20(3).
-use Rattle.std.specs.Prelude.{ℕ, ◌+◌, ◌-◌, ◌*◌, ◌/◌, ◌%◌, ◌^◌, ◌≡◌, ◌<◌, ◌≤◌, Bool, false, List, [], ◌∷◌, map, take, slice_index, bit_xor}
+use Rattle.std.specs.Prelude.{ℕ, ◌+◌, ◌-◌, ◌*◌, ◌/◌, ◌%◌, ◌^◌, ◌≡◌, ◌<◌, ◌≤◌, Bool, false, List, [], ◌∷◌, map, take}
+use Rattle.std.specs.Prelude.{slice_index, bit_xor}
 use Rattle.std.specs.List.{range_with_len}
 use Rattle.rand_core.specs.Steps.{u32_at}
 unfoldable pub use Rattle.ossl_blocks.specs.Xor.{xored}

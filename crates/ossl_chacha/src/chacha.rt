@@ -26,8 +26,8 @@ pub struct ChaCha {
     generator: ChaCha20Rng,
     // The block that is used in part, where one is.
     held: [u8; 64],
-    // The bytes used. As wide as this, it lays the generator's words at a multiple of 16 bytes, where vectors are stored
-    // at once.
+    // The bytes used. As wide as this, it lays the generator's words at a multiple of 16 bytes, where vectors are
+    // stored at once.
     used: u128,
     is_over: bool,
 }
@@ -104,7 +104,8 @@ impl ChaCha {
         requires fits { self.old.used + length text.old ≤ stream_len self.old.iv }
         ensures some { 0 < result }
         ensures count { result ≤ length text.old }
-        ensures text { text.new ≡ text_from self.old.key self.old.iv self.old.used (take result text.old) ++ drop result text.old }
+        ensures text { text.new ≡ text_from self.old.key self.old.iv self.old.used (take result text.old)
+            ++ drop result text.old }
         ensures used { self.new ≡ record self.old { used = self.old.used + result } }
     {
         let at = (self.used % 64) as usize;
@@ -115,15 +116,16 @@ impl ChaCha {
     }
 
     // Xors the next blocks into the text's first bytes, and says how many these are. Four blocks are drawn at once,
-    // into the room apart from the text, so that a processor need not wait for single words that it has just stored. The
-    // last is held.
+    // into the room apart from the text, so that a processor need not wait for single words that it has just stored.
+    // The last is held.
     fn crypt_drawn(&mut self, text: &mut [u8], room: &mut [u8; 256]) -> usize
         requires at_block { self.old.used % 64 ≡ 0 }
         requires some { 0 < length text.old }
         requires fits { self.old.used + length text.old ≤ stream_len self.old.iv }
         ensures some { 0 < result }
         ensures count { result ≤ length text.old }
-        ensures text { text.new ≡ text_from self.old.key self.old.iv self.old.used (take result text.old) ++ drop result text.old }
+        ensures text { text.new ≡ text_from self.old.key self.old.iv self.old.used (take result text.old)
+            ++ drop result text.old }
         ensures used { self.new ≡ record self.old { used = self.old.used + result } }
     {
         let size = drawn_len(text.len());
@@ -142,7 +144,8 @@ impl ChaCha {
         requires fits { self.old.used + length text.old ≤ stream_len self.old.iv }
         ensures some { 0 < result }
         ensures count { result ≤ length text.old }
-        ensures text { text.new ≡ text_from self.old.key self.old.iv self.old.used (take result text.old) ++ drop result text.old }
+        ensures text { text.new ≡ text_from self.old.key self.old.iv self.old.used (take result text.old)
+            ++ drop result text.old }
         ensures used { self.new ≡ record self.old { used = self.old.used + result } }
     {
         if self.used % 64 == 0 {
@@ -169,7 +172,9 @@ impl ChaCha {
     /// memory is refused, the stream and `out` are as they were.
     pub fn feed(&mut self, bytes: &[u8], out: &mut Vec<u8>) -> Result<(), AllocError>
         ensures appended { OnOk result (out.new.items ≡ out.old.items ++ text_of self.old bytes.now) }
-        ensures goes_on { OnOk result ((rest : List ℕ) → text_of self.old (bytes.now ++ rest) ≡ text_of self.old bytes.now ++ text_of self.new rest) }
+        ensures goes_on { OnOk result
+            ((rest : List ℕ) → text_of self.old (bytes.now ++ rest) ≡ text_of self.old bytes.now
+            ++ text_of self.new rest) }
         ensures end { OnOk result ((rest : List ℕ) → end_of self.old (bytes.now ++ rest) ≡ end_of self.new rest) }
         ensures unchanged { OnErr result ((self.new ≡ self.old) × (out.new.items ≡ out.old.items)) }
     {

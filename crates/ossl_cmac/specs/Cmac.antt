@@ -1,5 +1,6 @@
 -- CMAC (SP 800-38B) on whole messages, by a cipher's encryption e of a block of 16 bytes.
-use Rattle.std.specs.Prelude.{ℕ, zero, suc, ◌-◌, ◌*◌, ◌/◌, ◌%◌, ◌^◌, List, ◌∷◌, ◌++◌, length, take, drop, replicate, nat_lt, nat_eq, bit_xor, if◌then◌else◌}
+use Rattle.std.specs.Prelude.{ℕ, zero, suc, ◌-◌, ◌*◌, ◌/◌, ◌%◌, ◌^◌, List, ◌∷◌, ◌++◌, length, take, drop, replicate}
+use Rattle.std.specs.Prelude.{nat_lt, nat_eq, bit_xor, if◌then◌else◌}
 use Rattle.std.specs.Int.{w128, from_be_bytes, to_be_bytes}
 use Rattle.ossl_aes.specs.Cipher.{add}
 
@@ -23,7 +24,8 @@ module _ (e : List ℕ → List ℕ) where
   abbrev pub last_block : List ℕ → List ℕ
   last_block b = if nat_eq (length b) 16 then add b subkey_1 else add (b ++ 0x80 ∷ replicate (15 - length b) 0) subkey_2
 
-  -- the chain over the first n blocks, begun with v: each block is added to what came before, and encrypted (SP 800-38B, 6.2)
+  -- the chain over the first n blocks, begun with v: each block is added to what came before, and encrypted
+  -- (SP 800-38B, 6.2)
   unfoldable pub chained : ℕ → List ℕ → List ℕ → List ℕ
   chained zero v m = v
   chained (suc n) v m = chained n (e (add (take 16 m) v)) (drop 16 m)

@@ -66,6 +66,13 @@ impl<C: Block> Cmac<C> {
     pub fn finish(self) -> [u8; 16]
         ensures { result ≡ mac_of self [] }
     {
+        self.code()
+    }
+
+    /// The code of the bytes fed so far.
+    pub fn code(&self) -> [u8; 16]
+        ensures { result ≡ mac_of self.now [] }
+    {
         let Chain { cipher, value } = &self.chain;
         let count = self.buffer.len();
         let held = *self.buffer.block();

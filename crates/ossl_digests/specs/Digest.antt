@@ -1,7 +1,8 @@
 -- The nine hash functions by name: what each gives of a message.
 use Rattle.std.specs.Prelude.{ℕ, List}
 use Rattle.ossl_digests.specs.declared.hash.Hash.{Hash}
-use Rattle.ossl_digests.specs.declared.hash.Hash.TheVariants.{Sha1, Sha224, Sha256, Sha384, Sha512, Sha512t224, Sha512t256, Md5, Md4}
+use Rattle.ossl_digests.specs.declared.hash.Hash.TheVariants.{Sha1, Sha224, Sha256, Sha384, Sha512, Sha512t224}
+use Rattle.ossl_digests.specs.declared.hash.Hash.TheVariants.{Sha512t256, Md5, Md4}
 use Rattle.sha1.specs.Sha1.{sha1}
 use Rattle.sha2.specs.Sha256.{sha224, sha256}
 use Rattle.sha2.specs.Sha512.{sha384, sha512, sha512_224, sha512_256}

@@ -5,7 +5,8 @@ use Rattle.ossl_digests.specs.declared.hash.Hash.{Hash}
 use Rattle.ossl_digests.specs.declared.hash.Hash.TheVariants as H
 use Rattle.ossl_digests.specs.declared.state.Md4.{Md4}
 use Rattle.ossl_digests.specs.declared.digester.State.{State}
-use Rattle.ossl_digests.specs.declared.digester.State.TheVariants.{Sha1, Sha224, Sha256, Sha384, Sha512, Sha512t224, Sha512t256, Md5, Md4 as Md4State}
+use Rattle.ossl_digests.specs.declared.digester.State.TheVariants.{Sha1, Sha224, Sha256, Sha384, Sha512, Sha512t224}
+use Rattle.ossl_digests.specs.declared.digester.State.TheVariants.{Sha512t256, Md5, Md4 as Md4State}
 use Rattle.ossl_digests.specs.declared.digester.Digester.{Digester}
 use Rattle.sha1.specs.Sha1 as K1
 use Rattle.sha2.specs.Hashers.{Holds224, Holds256, Holds384, Holds512, Holds512_224, Holds512_256}

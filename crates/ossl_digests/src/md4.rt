@@ -1,6 +1,7 @@
 //! MD4 (RFC 1320).
 
-ghost use Rattle.std.specs.Prelude.{◌≡◌, ℕ, ◌+◌, ◌-◌, ◌*◌, ◌/◌, ◌%◌, ◌^◌, ◌<◌, ◌≤◌, List, ◌∷◌, ◌++◌, length, take, replicate};
+ghost use Rattle.std.specs.Prelude.{◌≡◌, ℕ, ◌+◌, ◌-◌, ◌*◌, ◌/◌, ◌%◌, ◌^◌, ◌<◌, ◌≤◌, List, ◌∷◌, ◌++◌, length, take};
+ghost use Rattle.std.specs.Prelude.{replicate};
 ghost use Rattle.ossl_digests.specs.Md4.{digest_from, initial_registers, registers_after, padding, output};
 
 use crate::rounds::compress;

@@ -1,7 +1,8 @@
 // The rounds of MD4 over one block (RFC 1320, 3.4).
 
 ghost use Rattle.std.specs.Prelude.{◌≡◌, ℕ, ◌+◌, ◌<◌, ◌≤◌, length, slice_index};
-ghost use Rattle.ossl_digests.specs.Md4.{choice, majority, parity, turned, operation, round_1, round_2, round_3, word_at, block_words, compress};
+ghost use Rattle.ossl_digests.specs.Md4.{choice, majority, parity, turned, operation, round_1, round_2, round_3};
+ghost use Rattle.ossl_digests.specs.Md4.{word_at, block_words, compress};
 
 #[inline(always)]
 fn turned(v: [u32; 4], mixed: u32, word: u32, constant: u32, shift: u32) -> [u32; 4]

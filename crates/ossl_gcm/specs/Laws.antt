@@ -6,6 +6,7 @@ use Rattle.ossl_ghash.specs.Ghash.{hashed}
 use Rattle.ossl_gcm.specs.declared.state.Stream.{Stream}
 use Rattle.ossl_gcm.specs.Run.{HasSealed}
 
-pub sealed_nothing : {C : Type 0} (enc : C → List ℕ → List ℕ) (s : Stream C) (old : List ℕ) → HasSealed enc s old [] s old
+pub sealed_nothing : {C : Type 0} (enc : C → List ℕ → List ℕ) (s : Stream C) (old : List ℕ)
+    → HasSealed enc s old [] s old
 unfolding stepped value_by hashed
 sealed_nothing enc s old = (refl, sym (append-nil old), refl)

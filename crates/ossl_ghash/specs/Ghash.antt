@@ -1,6 +1,7 @@
 -- The product of blocks, and GHASH (SP 800-38D, 6.3 and 6.4). A block is a number of 128 bits, its first byte the
 -- highest, so that the standard's bit 0, the leftmost, is the highest bit.
-use Rattle.std.specs.Prelude.{◌≡◌, ℕ, zero, suc, ◌-◌, ◌*◌, ◌/◌, ◌%◌, ◌^◌, List, ◌++◌, length, take, drop, replicate, nat_eq, bit_xor, if◌then◌else◌}
+use Rattle.std.specs.Prelude.{◌≡◌, ℕ, zero, suc, ◌-◌, ◌*◌, ◌/◌, ◌%◌, ◌^◌, List, ◌++◌, length, take, drop, replicate}
+use Rattle.std.specs.Prelude.{nat_eq, bit_xor, if◌then◌else◌}
 use Rattle.std.specs.Int.{w128, from_be_bytes}
 
 -- moved right by a bit, with 0xe1 and 15 zero bytes added where the bit moved out was set (SP 800-38D, 6.3, step 3)

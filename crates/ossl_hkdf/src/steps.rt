@@ -95,7 +95,8 @@ fn blocks(
 
 // The block T(number), after the block before it.
 fn next_block(keyed: &Hmac, before: &[u8], info: &[u8], number: u8) -> HashValue
-    ensures { (hash : TheHash) (key : List ℕ) → Holds keyed.now hash key [] → result ≡ hmac hash key (before.now ++ info.now ++ number ∷ []) }
+    ensures { (hash : TheHash) (key : List ℕ) → Holds keyed.now hash key []
+        → result ≡ hmac hash key (before.now ++ info.now ++ number ∷ []) }
 {
     let mut mac = keyed.copy();
     mac.feed(before);

@@ -69,7 +69,8 @@ impl Hmac {
 
     /// Takes more bytes in.
     pub fn feed(&mut self, bytes: &[u8])
-        ensures { (hash : TheHash) (key fed : List ℕ) → Holds self.old hash key fed → Holds self.new hash key (fed ++ bytes.now) }
+        ensures { (hash : TheHash) (key fed : List ℕ) → Holds self.old hash key fed
+            → Holds self.new hash key (fed ++ bytes.now) }
     {
         self.inner.feed(bytes);
     }
@@ -77,7 +78,8 @@ impl Hmac {
     /// The code of all bytes fed.
     pub fn finish(self) -> HashValue
         ensures code { (hash : TheHash) (key fed : List ℕ) → Holds self hash key fed → result ≡ hmac hash key fed }
-        ensures length { (hash : TheHash) (key fed : List ℕ) → Holds self hash key fed → length result ≡ output_len hash }
+        ensures length { (hash : TheHash) (key fed : List ℕ) → Holds self hash key fed
+            → length result ≡ output_len hash }
     {
         let Hmac { inner, mut outer } = self;
         outer.feed(inner.finish().as_slice());

@@ -1,4 +1,5 @@
-ghost use Rattle.std.specs.Prelude.{◌≡◌, ℕ, ◌+◌, ◌%◌, ◌<◌, ◌↔◌, List, ◌++◌, IsOk, IfOk, IfErr, OnOk, OnErr, length, slice_index, swap};
+ghost use Rattle.std.specs.Prelude.{◌≡◌, ℕ, ◌+◌, ◌%◌, ◌<◌, ◌↔◌, List, ◌++◌, IsOk, IfOk, IfErr, OnOk, OnErr, length};
+ghost use Rattle.std.specs.Prelude.{slice_index, swap};
 ghost use Rattle.std.specs.List.{range_with_len};
 ghost use Rattle.ossl_legacy.specs.Rc4State.{IsKeyLength, first_of, key_byte, key_schedule, scheduled, text_of, rc4};
 
@@ -68,8 +69,8 @@ fn scheduled_table(key: &[u8]) -> [u8; 256]
     table
 }
 
-// Exchanges S[i], which is `first`, and S[j], and gives the key byte S[S[i] + S[j]], and S[i] of the byte after it. That
-// one is read ahead, so that a processor need not wait for the exchange.
+// Exchanges S[i], which is `first`, and S[j], and gives the key byte S[S[i] + S[j]], and S[i] of the byte after it.
+// That one is read ahead, so that a processor need not wait for the exchange.
 #[inline(always)]
 fn exchange(table: &mut [u8; 256], i: u8, j: u8, first: u8) -> (u8, u8)
     requires { first ≡ slice_index table.old i }
@@ -110,7 +111,8 @@ impl Rc4 {
     // a processor need not read back what it has just stored.
     fn crypt(&mut self, text: &mut [u8])
         ensures text { text.new ≡ text_of self.old text.old }
-        ensures goes_on { (rest : List ℕ) → text_of self.old (text.old ++ rest) ≡ text_of self.old text.old ++ text_of self.new rest }
+        ensures goes_on { (rest : List ℕ)
+            → text_of self.old (text.old ++ rest) ≡ text_of self.old text.old ++ text_of self.new rest }
     {
         let (mut i, mut j) = (self.i, self.j);
         let mut first = self.table[i.wrapping_add(1) as usize];
@@ -129,7 +131,9 @@ impl Rc4 {
     /// stream and `out` are as they were.
     pub fn apply(&mut self, bytes: &[u8], out: &mut Vec<u8>) -> Result<(), AllocError>
         ensures appended { OnOk result (out.new.items ≡ out.old.items ++ text_of self.old bytes.now) }
-        ensures goes_on { OnOk result ((rest : List ℕ) → text_of self.old (bytes.now ++ rest) ≡ text_of self.old bytes.now ++ text_of self.new rest) }
+        ensures goes_on { OnOk result
+            ((rest : List ℕ) → text_of self.old (bytes.now ++ rest) ≡ text_of self.old bytes.now
+            ++ text_of self.new rest) }
         ensures unchanged { OnErr result ((self.new ≡ self.old) × (out.new.items ≡ out.old.items)) }
     {
         let start = out.len();

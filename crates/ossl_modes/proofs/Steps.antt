@@ -1,6 +1,6 @@
 -- A mode goes on from block to block: the laws by which a text may be cut anywhere.
-use Rattle.std.proofs.Common.{◌≡◌, ◌≢◌, ℕ, zero, suc, ◌+◌, ◌-◌, ◌*◌, ◌/◌, ◌%◌, ◌<◌, ◌≤◌, Bool, true, false, cond, nat_eq, ◌&&◌, List, [], ◌∷◌, ◌++◌, length, take, drop, Result, Ok, Err, refl, sym, ap, ◌∙◌, arith, append_assoc, length-append, replicate, lit<, lit≤, inl, inr, ◌⊎◌, bit_xor}
-use Rattle.std.proofs.lemmas.List.{append_cancel_left, take_at, drop_at, take_all, length-replicate, append-nil, length-take-le, length-drop, drop-drop}
+use Rattle.std.proofs.Common.{◌≡◌, ◌≢◌, ℕ, zero, suc, ◌+◌, ◌-◌, ◌*◌, ◌/◌, ◌%◌, ◌<◌, ◌≤◌, Bool, true, false, cond, nat_eq, ◌&&◌, List, [], ◌∷◌, ◌++◌, length, take, drop, Result, Ok, Err, refl, sym, ap, ◌∙◌, arith, append_assoc, length-append, replicate, inl, inr, ◌⊎◌, bit_xor}
+use Rattle.std.proofs.lemmas.List.{append_cancel_left, take_at, drop_at, take_all, length-replicate, append-nil, length-take-le, length-drop}
 use Rattle.std.proofs.lemmas.Bool.{cases_lt}
 use Rattle.std.proofs.lemmas.Bool.Decides.{nat_tests}
 use Rattle.ossl_aes.specs.Cipher.{add}

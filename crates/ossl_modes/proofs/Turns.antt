@@ -1,5 +1,5 @@
 -- A loop over the blocks of a text: at its start, a turn of it, and what it makes in each mode.
-use Rattle.std.proofs.Common.{◌≡◌, ℕ, zero, suc, ◌+◌, ◌*◌, List, [], ◌++◌, length, take, drop, Bool, refl, sym, ap, ◌∙◌, arith, append_assoc}
+use Rattle.std.proofs.Common.{◌≡◌, ℕ, zero, suc, ◌+◌, ◌*◌, List, [], ◌++◌, take, drop, Bool, refl, sym, ap, ◌∙◌, arith, append_assoc}
 use Rattle.std.proofs.lemmas.List.{append-nil, drop-drop}
 use Rattle.ossl_modes.specs.declared.kinds.ModeKind.{ModeKind}
 use Rattle.ossl_modes.specs.Modes.{block_out, block_next, blocks, value_after}

@@ -1,6 +1,7 @@
 -- The modes of a block cipher (SP 800-38A) on whole texts. e and d are the cipher's encryption and decryption of a
 -- block, v is the initial value (IV), and a text is read in blocks of 16 bytes.
-use Rattle.std.specs.Prelude.{ℕ, zero, suc, ◌+◌, ◌-◌, ◌/◌, ◌%◌, ◌^◌, List, [], ◌++◌, length, take, drop, replicate, Bool, true, false, nat_le, nat_eq, ◌&&◌, slice_index, if◌then◌else◌, Result, Ok, Err}
+use Rattle.std.specs.Prelude.{ℕ, zero, suc, ◌+◌, ◌-◌, ◌/◌, ◌%◌, ◌^◌, List, [], ◌++◌, length, take, drop, replicate}
+use Rattle.std.specs.Prelude.{Bool, true, false, nat_le, nat_eq, ◌&&◌, slice_index, if◌then◌else◌, Result, Ok, Err}
 use Rattle.std.specs.List.{list_all}
 use Rattle.std.specs.Int.{w128, from_be_bytes, to_be_bytes}
 use Rattle.ossl_aes.specs.Cipher.{add}
@@ -24,8 +25,8 @@ block_out e d Cfb _ v b = add b (e v)
 block_out e d Ofb _ v b = add b (e v)
 block_out e d Ctr _ v b = add b (e v)
 
--- what stands for v at the block after b: the ciphertext block before in CBC and CFB, the cipher's output before in OFB,
--- the next counter in CTR (SP 800-38A, 6.1 to 6.5)
+-- what stands for v at the block after b: the ciphertext block before in CBC and CFB, the cipher's output before in
+-- OFB, the next counter in CTR (SP 800-38A, 6.1 to 6.5)
 abbrev pub block_next : (List ℕ → List ℕ) → ModeKind → Bool → List ℕ → List ℕ → List ℕ
 block_next e Ecb _ v b = v
 block_next e Cbc false v b = e (add b v)
@@ -52,7 +53,8 @@ padded bs = bs ++ replicate (16 - length bs % 16) (16 - length bs % 16)
 
 -- whether a last block ends in a padding: its last byte n is 1 to 16, and so are its last n bytes n (RFC 5652, 6.3)
 abbrev pub ends_in_padding : List ℕ → Bool
-ends_in_padding b = let n = slice_index b 15 in nat_le 1 n && nat_le n 16 && list_all (λ x. nat_eq x n) (drop (16 - n) b)
+ends_in_padding b = let n = slice_index b 15 in
+    nat_le 1 n && nat_le n 16 && list_all (λ x. nat_eq x n) (drop (16 - n) b)
 
 -- how many bytes of it are no padding
 abbrev pub unpadded_len : List ℕ → Result ℕ FinishRefused
@@ -66,7 +68,8 @@ module _ (e d : List ℕ → List ℕ) (kind : ModeKind) (decrypt : Bool) where
   -- what the first n blocks become
   unfoldable pub blocks : ℕ → List ℕ → List ℕ → List ℕ
   blocks zero v bs = []
-  blocks (suc n) v bs = block_out e d kind decrypt v (take 16 bs) ++ blocks n (block_next e kind decrypt v (take 16 bs)) (drop 16 bs)
+  blocks (suc n) v bs = block_out e d kind decrypt v (take 16 bs)
+      ++ blocks n (block_next e kind decrypt v (take 16 bs)) (drop 16 bs)
 
   -- what stands for v after the first n blocks
   unfoldable pub value_after : ℕ → List ℕ → List ℕ → List ℕ
@@ -86,13 +89,15 @@ module _ (e d : List ℕ → List ℕ) (kind : ModeKind) (decrypt : Bool) where
   checked zero v bs = Err (WrongFinalBlock 0)
   checked (suc zero) v bs = unpadded (block_out e d kind decrypt v bs)
   checked (suc (suc n)) v bs =
-      before (block_out e d kind decrypt v (take 16 bs)) (checked (suc n) (block_next e kind decrypt v (take 16 bs)) (drop 16 bs))
+      before (block_out e d kind decrypt v (take 16 bs))
+      (checked (suc n) (block_next e kind decrypt v (take 16 bs)) (drop 16 bs))
 
   -- the text of all bytes, or the refusal: ECB and CBC want whole blocks, but for an encryption with padding
   abbrev pub outcome : Bool → List ℕ → List ℕ → Result (List ℕ) FinishRefused
   outcome pad v bs =
       if is_stream kind then Ok (equations v bs)
-      else if pad && decrypt then (if nat_eq (length bs % 16) 0 then checked ((length bs + 15) / 16) v bs else Err (WrongFinalBlock (length bs % 16)))
+      else if pad && decrypt then (if nat_eq (length bs % 16) 0 then checked ((length bs + 15) / 16) v bs
+      else Err (WrongFinalBlock (length bs % 16)))
       else if pad then Ok (equations v (padded bs))
       else if nat_eq (length bs % 16) 0 then Ok (equations v bs)
       else Err (WrongFinalBlock (length bs % 16))

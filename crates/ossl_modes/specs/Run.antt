@@ -6,13 +6,16 @@ use Rattle.ossl_modes.specs.declared.kinds.FinishRefused.{FinishRefused}
 use Rattle.ossl_modes.specs.declared.kinds.FinishRefused.TheVariants.{NoMemory}
 use Rattle.ossl_modes.specs.declared.state.BlockMode.{BlockMode}
 use Rattle.ossl_modes.specs.declared.state.Mode.{Mode}
-use Rattle.ossl_modes.specs.Modes.{before, blocks, value_after, equations, outcome, whole_blocks}
+use Rattle.ossl_modes.specs.Modes.{before, blocks, value_after, outcome, whole_blocks}
 
--- how a mode of the cipher e and d and a vector stand after whole blocks, by how they stood before: their text is appended
-abbrev pub HasGiven : {C : Type 0} → (List ℕ → List ℕ) → (List ℕ → List ℕ) → BlockMode C → List ℕ → List ℕ → BlockMode C → List ℕ → Type 0
+-- how a mode of the cipher e and d and a vector stand after whole blocks, by how they stood before: their text is
+-- appended
+abbrev pub HasGiven : {C : Type 0} → (List ℕ → List ℕ) → (List ℕ → List ℕ) → BlockMode C → List ℕ → List ℕ → BlockMode C
+    → List ℕ → Type 0
 HasGiven e d m old bs after new =
     let n = length bs / 16 in
-    (after ≡ record m { value = value_after e d m.kind m.decrypt n m.value bs }) × (new ≡ old ++ blocks e d m.kind m.decrypt n m.value bs)
+    (after ≡ record m { value = value_after e d m.kind m.decrypt n m.value bs })
+    × (new ≡ old ++ blocks e d m.kind m.decrypt n m.value bs)
 
 -- the outcome of what a mode has not given yet, where the bytes bs come yet
 abbrev pub outcome_of : {C : Type 0} {g : Ghosts C} → Mode C g → List ℕ → Result (List ℕ) FinishRefused
@@ -38,7 +41,8 @@ abbrev pub IsBeginning : List ℕ → List ℕ → List ℕ → Type 0
 IsBeginning old new w = (given : List ℕ) × (rest : List ℕ) × (new ≡ old ++ given) × (given ++ rest ≡ w)
 
 -- a whole run: the text of the outcome o, or its refusal after a beginning of the equations w
-abbrev pub RunsTo : {U : Type 0} → List ℕ → List ℕ → Result U FinishRefused → Result (List ℕ) FinishRefused → List ℕ → Type 0
+abbrev pub RunsTo : {U : Type 0} → List ℕ → List ℕ → Result U FinishRefused → Result (List ℕ) FinishRefused → List ℕ
+    → Type 0
 RunsTo old new (Ok _) o w = before old o ≡ Ok new
 RunsTo old new (Err NoMemory) o w = IsBeginning old new w
 RunsTo old new (Err r) o w = (o ≡ Err r) × IsBeginning old new w

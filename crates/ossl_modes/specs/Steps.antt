@@ -1,5 +1,5 @@
--- Modes by their steps: out is what a block becomes, and next what stands for the IV at the block after it, both by what
--- stands for the IV at the block.
+-- Modes by their steps: out is what a block becomes, and next what stands for the IV at the block after it, both by
+-- what stands for the IV at the block.
 use Rattle.std.specs.Prelude.{ℕ, zero, suc, List, [], ◌++◌, take, drop}
 
 module _ (out next : List ℕ → List ℕ → List ℕ) where

@@ -16,22 +16,23 @@ use ossl_blocks::BlockTaker;
 /// Whole blocks through a mode in one direction, in place.
 pub fn each_through<S: Step, C: Block>(cipher: &C, value: &mut [u8; 16], room: &mut [u8])
     requires whole { length room.old % 16 ≡ 0 }
-    ensures gives { room.new ≡ stepped (S.out (C.enc cipher.now) (C.dec cipher.now)) (S.next (C.enc cipher.now)) (length room.old / 16) value.old room.old }
-    ensures next { value.new ≡ value_by (S.out (C.enc cipher.now) (C.dec cipher.now)) (S.next (C.enc cipher.now)) (length room.old / 16) value.old room.old }
+    ensures gives { room.new
+        ≡ stepped (S.out (C.enc cipher.now) (C.dec cipher.now)) (S.next (C.enc cipher.now)) (length room.old / 16)
+        value.old room.old }
+    ensures next { value.new
+        ≡ value_by (S.out (C.enc cipher.now) (C.dec cipher.now)) (S.next (C.enc cipher.now)) (length room.old / 16)
+        value.old room.old }
 {
     'block: for i in 0..room.len() / 16 {
-        let place = &mut room[16 * i..16 * i + 16];
-        let mut block = [0; 16];
-        block.copy_from_slice(place);
-        let text = S::step(cipher, value, block);
-        place.copy_from_slice(&text);
+        S::step_in_place(cipher, value, &mut room[16 * i..16 * i + 16]);
     }
 }
 
 impl<C: Block> BlockMode<C> {
     /// A block through the mode. The mode itself stays at this block.
     pub fn through(&self, block: [u8; 16]) -> [u8; 16]
-        ensures { result ≡ block_out (C.enc self.now.cipher) (C.dec self.now.cipher) self.now.kind self.now.decrypt self.now.value block }
+        ensures { result ≡ block_out (C.enc self.now.cipher) (C.dec self.now.cipher) self.now.kind self.now.decrypt
+            self.now.value block }
     {
         let mut value = self.value;
         let cipher = &self.cipher;
@@ -47,13 +48,18 @@ impl<C: Block> BlockMode<C> {
         }
     }
 
-    // Whole blocks through the mode, in place. Each mode and direction has a loop of its own, so that no block asks which
-    // it is.
+    // Whole blocks through the mode, in place. Each mode and direction has a loop of its own, so that no block asks
+    // which it is.
     #[tactic(auto, using(crate::proofs::Turns::blocks_stepped, crate::proofs::Turns::value_stepped))]
     fn through_all(&mut self, room: &mut [u8])
         requires whole { length room.old % 16 ≡ 0 }
-        ensures gives { room.new ≡ blocks (C.enc self.old.cipher) (C.dec self.old.cipher) self.old.kind self.old.decrypt (length room.old / 16) self.old.value room.old }
-        ensures next { self.new ≡ record self.old { value = value_after (C.enc self.old.cipher) (C.dec self.old.cipher) self.old.kind self.old.decrypt (length room.old / 16) self.old.value room.old } }
+        ensures gives { room.new
+            ≡ blocks (C.enc self.old.cipher) (C.dec self.old.cipher) self.old.kind self.old.decrypt
+            (length room.old / 16) self.old.value room.old }
+        ensures next { self.new ≡ record self.old {
+          value = value_after (C.enc self.old.cipher) (C.dec self.old.cipher) self.old.kind self.old.decrypt
+              (length room.old / 16) self.old.value room.old;
+        } }
     {
         let (cipher, value) = (&self.cipher, &mut self.value);
         match (self.kind, self.decrypt) {
@@ -90,7 +96,8 @@ impl<C: Block> BlockTaker<16> for BlockMode<C> {
 
     ghost has_room = { λ out n. vec_len out + n ≤ vec_capacity out };
 
-    ghost taken = { λ mode out bytes after new. HasGiven (C.enc mode.cipher) (C.dec mode.cipher) mode out.items bytes after new.items };
+    ghost taken = { λ mode out bytes after new. HasGiven (C.enc mode.cipher) (C.dec mode.cipher) mode out.items bytes
+        after new.items };
 
     // They are appended first, and then go through the mode where they stand.
     fn take(&mut self, first: &[u8], rest: &[u8], out: &mut Vec<u8>) {

@@ -1,7 +1,7 @@
 //! The modes, and the refusals of a text's end.
 
-/// A mode of operation (SP 800-38A): Electronic Codebook, Cipher Block Chaining, Cipher Feedback of whole blocks, Output
-/// Feedback, Counter.
+/// A mode of operation (SP 800-38A): Electronic Codebook, Cipher Block Chaining, Cipher Feedback of whole blocks,
+/// Output Feedback, Counter.
 #[derive(Clone, Copy, Debug, PartialEq, Eq)]
 pub enum ModeKind {
     Ecb,

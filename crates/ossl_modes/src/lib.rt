@@ -1,5 +1,7 @@
-//! Five modes of a block cipher, ECB, CBC, CFB, OFB and CTR, with padding, for texts that come in pieces of any lengths.
-//! What the feeds and an accepted finish append is SP 800-38A over all bytes fed; a finish refuses exactly where it does.
+//! Five modes of a block cipher, ECB, CBC, CFB, OFB and CTR, with padding, for texts that come in pieces of any
+//! lengths.
+//! What the feeds and an accepted finish append is SP 800-38A over all bytes fed; a finish refuses exactly where it
+//! does.
 //! The work grows with the bytes; a feed takes memory once, and at most 16 bytes are held back (SP 800-38A, RFC 5652).
 #![tactic(auto)]
 

@@ -3,7 +3,8 @@
 ghost use Rattle.std.specs.Prelude.{◌≡◌, ℕ, ◌%◌, ◌<◌, List, [], ◌++◌, length, map, true, ◌⊎◌, OnOk, OnErr};
 ghost use Rattle.std.specs.List.{concat};
 ghost use Rattle.ossl_blocks.specs.Held.{held_of};
-ghost use Rattle.ossl_modes.specs.Modes.{block_out, is_stream, before, equations, whole_blocks, padded, unpadded, outcome};
+ghost use Rattle.ossl_modes.specs.Modes.{block_out, is_stream, before, equations, whole_blocks, padded, unpadded};
+ghost use Rattle.ossl_modes.specs.Modes.{outcome};
 ghost use Rattle.ossl_modes.specs.Run.{outcome_of, whole_blocks_of, Finishes, RunsTo};
 
 use crate::kinds::{FinishRefused, ModeKind};
@@ -26,8 +27,10 @@ impl<C: Block> Mode<C> {
     /// The start of a text: `iv` is the initial value, which ECB does not use; `decrypt` is the direction; `pad` wants
     /// padding, which only ECB and CBC have.
     pub fn new(cipher: C, kind: ModeKind, iv: [u8; 16], decrypt: bool, pad: bool) -> Self
-        ensures text { (bytes : List ℕ) → outcome_of result bytes ≡ outcome (C.enc cipher) (C.dec cipher) kind decrypt pad iv bytes }
-        ensures unchecked { (bytes : List ℕ) → whole_blocks_of result bytes ≡ whole_blocks (C.enc cipher) (C.dec cipher) kind decrypt iv bytes }
+        ensures text { (bytes : List ℕ)
+            → outcome_of result bytes ≡ outcome (C.enc cipher) (C.dec cipher) kind decrypt pad iv bytes }
+        ensures unchecked { (bytes : List ℕ)
+            → whole_blocks_of result bytes ≡ whole_blocks (C.enc cipher) (C.dec cipher) kind decrypt iv bytes }
     {
         Mode {
             mode: BlockMode {
@@ -47,9 +50,13 @@ impl<C: Block> Mode<C> {
         ensures appends { OnOk result ((given : List ℕ) × (out.new.items ≡ out.old.items ++ given)) }
         // Whatever bytes come yet: what was appended, and what the new state makes of them, is what the old state makes
         // of these bytes and them.
-        ensures text { OnOk result ((rest : List ℕ) → before out.old.items (outcome_of self.old (bytes.now ++ rest)) ≡ before out.new.items (outcome_of self.new rest)) }
+        ensures text { OnOk result
+            ((rest : List ℕ) → before out.old.items (outcome_of self.old (bytes.now ++ rest))
+            ≡ before out.new.items (outcome_of self.new rest)) }
         // The same of the block equations without the last check.
-        ensures unchecked { OnOk result ((rest : List ℕ) → out.old.items ++ whole_blocks_of self.old (bytes.now ++ rest) ≡ out.new.items ++ whole_blocks_of self.new rest) }
+        ensures unchecked { OnOk result
+            ((rest : List ℕ) → out.old.items ++ whole_blocks_of self.old (bytes.now ++ rest) ≡ out.new.items
+            ++ whole_blocks_of self.new rest) }
         ensures err { OnErr result ((self.new ≡ self.old) × (out.new.items ≡ out.old.items)) }
     {
         out.reserve(self.buffer.whole_len(bytes.len()))?;
@@ -60,7 +67,9 @@ impl<C: Block> Mode<C> {
     // What is held, where its length fits.
     fn finish_plain(&self, out: &mut Vec<u8>) -> Result<(), FinishRefused>
         requires { (is_stream self.now.mode.kind ≡ true) ⊎ (length (held_of self.now.buffer) % 16 ≡ 0) }
-        ensures { Finishes out.old.items out.new.items result (Ok (equations (C.enc self.now.mode.cipher) (C.dec self.now.mode.cipher) self.now.mode.kind self.now.mode.decrypt self.now.mode.value (held_of self.now.buffer))) }
+        ensures { Finishes out.old.items out.new.items result
+            (Ok (equations (C.enc self.now.mode.cipher) (C.dec self.now.mode.cipher) self.now.mode.kind
+            self.now.mode.decrypt self.now.mode.value (held_of self.now.buffer))) }
     {
         let text = self.mode.through(*self.buffer.block());
         append(out, &text[..self.buffer.len()])
@@ -69,7 +78,9 @@ impl<C: Block> Mode<C> {
     // What is held, a whole block, and a block of padding.
     fn finish_full(&mut self, out: &mut Vec<u8>) -> Result<(), FinishRefused>
         requires { length (held_of self.old.buffer) ≡ 16 }
-        ensures { Finishes out.old.items out.new.items result (Ok (equations (C.enc self.old.mode.cipher) (C.dec self.old.mode.cipher) self.old.mode.kind self.old.mode.decrypt self.old.mode.value (padded (held_of self.old.buffer)))) }
+        ensures { Finishes out.old.items out.new.items result
+            (Ok (equations (C.enc self.old.mode.cipher) (C.dec self.old.mode.cipher) self.old.mode.kind
+            self.old.mode.decrypt self.old.mode.value (padded (held_of self.old.buffer)))) }
     {
         if out.reserve(32).is_err() {
             return Err(FinishRefused::NoMemory);
@@ -82,7 +93,9 @@ impl<C: Block> Mode<C> {
     // What is held, less than a block, with its padding.
     fn finish_short(&self, out: &mut Vec<u8>) -> Result<(), FinishRefused>
         requires { length (held_of self.now.buffer) < 16 }
-        ensures { Finishes out.old.items out.new.items result (Ok (equations (C.enc self.now.mode.cipher) (C.dec self.now.mode.cipher) self.now.mode.kind self.now.mode.decrypt self.now.mode.value (padded (held_of self.now.buffer)))) }
+        ensures { Finishes out.old.items out.new.items result
+            (Ok (equations (C.enc self.now.mode.cipher) (C.dec self.now.mode.cipher) self.now.mode.kind
+            self.now.mode.decrypt self.now.mode.value (padded (held_of self.now.buffer)))) }
     {
         let last = padded_block(*self.buffer.block(), self.buffer.len());
         append(out, &self.mode.through(last))
@@ -91,7 +104,9 @@ impl<C: Block> Mode<C> {
     // The last block, without its padding.
     fn finish_unpadded(&self, out: &mut Vec<u8>) -> Result<(), FinishRefused>
         requires { length (held_of self.now.buffer) ≡ 16 }
-        ensures { Finishes out.old.items out.new.items result (unpadded (block_out (C.enc self.now.mode.cipher) (C.dec self.now.mode.cipher) self.now.mode.kind self.now.mode.decrypt self.now.mode.value (held_of self.now.buffer))) }
+        ensures { Finishes out.old.items out.new.items result
+            (unpadded (block_out (C.enc self.now.mode.cipher) (C.dec self.now.mode.cipher) self.now.mode.kind
+            self.now.mode.decrypt self.now.mode.value (held_of self.now.buffer))) }
     {
         let text = self.mode.through(*self.buffer.block());
         match unpadded_len(&text) {
@@ -104,6 +119,13 @@ impl<C: Block> Mode<C> {
     /// is that of the standard over all bytes fed.
     pub fn finish(mut self, out: &mut Vec<u8>) -> Result<(), FinishRefused>
         ensures { Finishes out.old.items out.new.items result (outcome_of self []) }
+    {
+        self.finish_in_place(out)
+    }
+
+    /// What `finish` does, where the mode stands, so that its state need not be moved. What is fed after it is no text.
+    pub fn finish_in_place(&mut self, out: &mut Vec<u8>) -> Result<(), FinishRefused>
+        ensures { Finishes out.old.items out.new.items result (outcome_of self.old []) }
     {
         let count = self.buffer.len();
         let wrong = FinishRefused::WrongFinalBlock { rest: count as u64 };
@@ -141,7 +163,9 @@ pub fn run<C: Block>(
     pieces: &[&[u8]],
     out: &mut Vec<u8>,
 ) -> Result<(), FinishRefused>
-    ensures { let bytes = concat (map (λ piece. piece.now) pieces.now) in RunsTo out.old.items out.new.items result (outcome (C.enc cipher) (C.dec cipher) kind decrypt pad iv bytes) (whole_blocks (C.enc cipher) (C.dec cipher) kind decrypt iv bytes) }
+    ensures { let bytes = concat (map (λ piece. piece.now) pieces.now) in
+        RunsTo out.old.items out.new.items result (outcome (C.enc cipher) (C.dec cipher) kind decrypt pad iv bytes)
+        (whole_blocks (C.enc cipher) (C.dec cipher) kind decrypt iv bytes) }
 {
     let mut mode = Mode::new(cipher, kind, iv, decrypt, pad);
     for piece in pieces {

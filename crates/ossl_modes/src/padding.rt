@@ -16,7 +16,8 @@ fn ends_in(block: &[u8], start: usize, n: u8) -> bool
 
 /// How many bytes of a last block are no padding; none where it does not end in one.
 pub fn unpadded_len(block: &[u8; 16]) -> Option<usize>
-    ensures { MatchOption result (unpadded_len block.now ≡ Err FinishRefused.BadDecrypt) (λ n. (unpadded_len block.now ≡ Ok n) × (n ≤ 16)) }
+    ensures { MatchOption result (unpadded_len block.now ≡ Err FinishRefused.BadDecrypt)
+        (λ n. (unpadded_len block.now ≡ Ok n) × (n ≤ 16)) }
 {
     let n = block[15];
     if n < 1 || n > 16 {

@@ -1,6 +1,6 @@
 //! The modes block by block, each in one direction (SP 800-38A, 6.1 to 6.5).
 
-ghost use Rattle.std.specs.Prelude.{◌≡◌, List, ℕ};
+ghost use Rattle.std.specs.Prelude.{◌≡◌, List, ℕ, length};
 ghost use Rattle.std.specs.Int.{w128, to_be_bytes};
 ghost use Rattle.ossl_aes.specs.Cipher.{add};
 ghost use Rattle.ossl_modes.specs.Modes.{next_counter};
@@ -19,6 +19,19 @@ pub trait Step {
     fn step<C: Block>(cipher: &C, value: &mut [u8; 16], block: [u8; 16]) -> [u8; 16]
         ensures gives { result ≡ out (C.enc cipher.now) (C.dec cipher.now) value.old block }
         ensures next { value.new ≡ next (C.enc cipher.now) value.old block };
+
+    /// A block through the mode, where it stands.
+    #[inline(always)]
+    fn step_in_place<C: Block>(cipher: &C, value: &mut [u8; 16], place: &mut [u8])
+        requires { length place.old ≡ 16 }
+        ensures gives { place.new ≡ out (C.enc cipher.now) (C.dec cipher.now) value.old place.old }
+        ensures next { value.new ≡ next (C.enc cipher.now) value.old place.old }
+    {
+        let mut block = [0; 16];
+        block.copy_from_slice(place);
+        let text = Self::step(cipher, value, block);
+        place.copy_from_slice(&text);
+    }
 }
 
 // The counter after a counter.
@@ -84,6 +97,16 @@ impl Step for CbcDecryption {
         let text = xor_blocks(cipher.decrypt(block), *value);
         *value = block;
         text
+    }
+
+    // The ciphertext is read once more where it stands, in place of being kept beside the cipher's work.
+    #[inline(always)]
+    fn step_in_place<C: Block>(cipher: &C, value: &mut [u8; 16], place: &mut [u8]) {
+        let mut block = [0; 16];
+        block.copy_from_slice(place);
+        let text = xor_blocks(cipher.decrypt(block), *value);
+        value.copy_from_slice(place);
+        place.copy_from_slice(&text);
     }
 }
 

@@ -49,7 +49,7 @@ impl<C: Block> Algorithm for Cmac<C> {
 
     #[inline(always)]
     fn finish(self, out: &mut Vec<u8>) -> Result<(), FinishRefused> {
-        append(out, &Cmac::finish(self))
+        append(out, &self.code())
     }
 }
 

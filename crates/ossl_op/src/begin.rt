@@ -50,8 +50,8 @@ impl OpCtx {
         ensures memory { begins code inner params.now ≡ Ok tt → IfErr result (IsWantOfMemory code) }
     {
         judge(code, inner, params)?;
-        // Each algorithm's beginning writes the whole answer where it is wanted, which a `return` passes on as it is: as
-        // the value of the match it would be moved once more.
+        // Each algorithm's beginning writes the whole answer where it is wanted, which a `return` passes on as it is:
+        // as the value of the match it would be moved once more.
         match code {
             Code::Aes { bits, mode } => match bits {
                 Bits::B128 => return begin_aes_128(mode, params),
@@ -114,6 +114,7 @@ fn initial_value(mode: AesMode, iv: &[u8]) -> [u8; 16]
     }
 }
 
+#[inline(never)]
 fn mode_of<const NK: usize, const WORDS: usize>(
     mode: AesMode,
     params: &Params,

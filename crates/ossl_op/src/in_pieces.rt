@@ -17,9 +17,10 @@ impl<C: Block> Algorithm for Mode<C> {
         Mode::feed(self, bytes, out)
     }
 
+    // It ends where it stands, so that it is not moved once more.
     #[inline(always)]
-    fn finish(self, out: &mut Vec<u8>) -> Result<(), FinishRefused> {
-        Mode::finish(self, out)
+    fn finish(mut self, out: &mut Vec<u8>) -> Result<(), FinishRefused> {
+        self.finish_in_place(out)
     }
 }
 

@@ -18,9 +18,9 @@ pub enum RunRefused {
     NoMemory,
 }
 
-/// Begins an operation, feeds it the pieces and finishes it: appends the standard's result of the pieces joined. `inner`
-/// is the digest or cipher that a MAC or a key derivation runs on. Where the end is refused, what was appended is a
-/// beginning of the text without its last check.
+/// Begins an operation, feeds it the pieces and finishes it: appends the standard's result of the pieces joined.
+/// `inner` is the digest or cipher that a MAC or a key derivation runs on. Where the end is refused, what was appended
+/// is a beginning of the text without its last check.
 pub fn run(
     alloc: Global,
     code: Code,

@@ -40,7 +40,8 @@ gcm_text e m = text_or (gcm e (message 12) [] false m) (early e (message 12) fal
 module _ (e d : List ℕ → List ℕ) where
   -- the text of a message in a mode without padding
   abbrev pub mode_text : ModeKind → Bool → List ℕ → List ℕ
-  mode_text kind decrypt m = text_or (outcome e d kind decrypt false (message 16) m) (whole_blocks e d kind decrypt (message 16) m)
+  mode_text kind decrypt m =
+      text_or (outcome e d kind decrypt false (message 16) m) (whole_blocks e d kind decrypt (message 16) m)
 
   -- the block function alone, once for each block of a message
   abbrev pub chain_end : Bool → List ℕ → List ℕ

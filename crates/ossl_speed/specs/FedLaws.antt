@@ -13,19 +13,23 @@ use Rattle.ossl_speed.specs.Fed.{IsDigesterFed, IsHmacFed, IsCmacFed, IsAppended
 pub digester-nothing : (a : Digester) → IsDigesterFed a [] a
 digester-nothing a hash m held = subst (D.Holds a hash) (sym (append-nil m)) held
 
-pub digester-joined : (a b c : Digester) (x y : List ℕ) → IsDigesterFed a x b → IsDigesterFed b y c → IsDigesterFed a (x ++ y) c
-digester-joined a b c x y f g hash m held = subst (D.Holds c hash) (append_assoc m x y) (g hash (m ++ x) (f hash m held))
+pub digester-joined : (a b c : Digester) (x y : List ℕ) → IsDigesterFed a x b → IsDigesterFed b y c
+    → IsDigesterFed a (x ++ y) c
+digester-joined a b c x y f g hash m held =
+    subst (D.Holds c hash) (append_assoc m x y) (g hash (m ++ x) (f hash m held))
 
 pub hmac-nothing : (a : Hmac) → IsHmacFed a [] a
 hmac-nothing a hash key m held = subst (M.Holds a hash key) (sym (append-nil m)) held
 
 pub hmac-joined : (a b c : Hmac) (x y : List ℕ) → IsHmacFed a x b → IsHmacFed b y c → IsHmacFed a (x ++ y) c
-hmac-joined a b c x y f g hash key m held = subst (M.Holds c hash key) (append_assoc m x y) (g hash key (m ++ x) (f hash key m held))
+hmac-joined a b c x y f g hash key m held =
+    subst (M.Holds c hash key) (append_assoc m x y) (g hash key (m ++ x) (f hash key m held))
 
 pub cmac-nothing : {C : Type 0} {g : Ghosts C} (a : Cmac C g) → IsCmacFed a [] a
 cmac-nothing a rest = refl
 
-pub cmac-joined : {C : Type 0} {g : Ghosts C} (a b c : Cmac C g) (x y : List ℕ) → IsCmacFed a x b → IsCmacFed b y c → IsCmacFed a (x ++ y) c
+pub cmac-joined : {C : Type 0} {g : Ghosts C} (a b c : Cmac C g) (x y : List ℕ) → IsCmacFed a x b → IsCmacFed b y c
+    → IsCmacFed a (x ++ y) c
 cmac-joined a b c x y f g rest = ap (mac_of a) (append_assoc x y rest) ∙ f (y ++ rest) ∙ g rest
 
 pub appended-nothing : (a : List ℕ) → IsAppended a [] a

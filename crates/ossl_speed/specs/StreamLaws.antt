@@ -7,6 +7,7 @@ use Rattle.ossl_speed.specs.Values.{last}
 pub sealing-nothing : (before : List ℕ → List ℕ) (out : List ℕ) → IsSealingFed before out [] before out
 sealing-nothing before out rest = refl
 
-pub sealing-joined : (f g h : List ℕ → List ℕ) (a b c x y : List ℕ) → IsSealingFed f a x g b → IsSealingFed g b y h c → IsSealingFed f a (x ++ y) h c
+pub sealing-joined : (f g h : List ℕ → List ℕ) (a b c x y : List ℕ) → IsSealingFed f a x g b → IsSealingFed g b y h c
+    → IsSealingFed f a (x ++ y) h c
 sealing-joined f g h a b c x y one two rest =
     ap (λ (t : List ℕ). last 64 (a ++ f t)) (append_assoc x y rest) ∙ one (y ++ rest) ∙ two rest

@@ -29,4 +29,5 @@ text_of_gcm enc text bytes = text_or (G.outcome_of enc text bytes) (G.early_of e
 
 -- with the bytes x put in front of whatever comes yet, the text before, given and yet to come, ends as the text after
 abbrev pub IsSealingFed : (List ℕ → List ℕ) → List ℕ → List ℕ → (List ℕ → List ℕ) → List ℕ → Type 0
-IsSealingFed before out x after new = (rest : List ℕ) → last 64 (out ++ before (x ++ rest)) ≡ last 64 (new ++ after rest)
+IsSealingFed before out x after new =
+    (rest : List ℕ) → last 64 (out ++ before (x ++ rest)) ≡ last 64 (new ++ after rest)

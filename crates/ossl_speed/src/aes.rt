@@ -57,7 +57,8 @@ fn text_of<C: Block>(
     length: usize,
 ) -> Result<Vec<u8>, AllocError>
     requires { piece.now ≡ message PIECE }
-    ensures { IfOk result (λ end. end.items ≡ last 64 (mode_text (C.enc cipher) (C.dec cipher) kind decrypt (message length))) }
+    ensures { IfOk result (λ end. end.items
+        ≡ last 64 (mode_text (C.enc cipher) (C.dec cipher) kind decrypt (message length))) }
 {
     let mode = Mode::new(cipher, kind, first_bytes(piece), decrypt, false);
     end_of_text(alloc, mode, piece, length)

@@ -65,8 +65,9 @@ macro_rules! aes {
     };
 }
 
-// The names, each with its algorithm: those of the built-in tables, for HMAC, HKDF and CMAC the hash or the cipher behind
-// a dash, for a direction in which the text is decrypted that word behind a dash, and BLOCK for the block function alone.
+// The names, each with its algorithm: those of the built-in tables, for HMAC, HKDF and CMAC the hash or the cipher
+// behind a dash, for a direction in which the text is decrypted that word behind a dash, and BLOCK for the block
+// function alone.
 const NAMES: [(&str, Algorithm); 71] = [
     ("SHA2-256", Algorithm::Digest(Hash::Sha256)),
     ("SHA-256", Algorithm::Digest(Hash::Sha256)),

@@ -23,7 +23,9 @@ pub trait Cipher: Drop {
 
     /// Appends text of the bytes. What is not given yet comes later.
     fn crypt(&mut self, bytes: &[u8], out: &mut Vec<u8>) -> Result<(), AllocError>
-        ensures text { OnOk result ((rest : List ℕ) → out.old.items ++ text self.old (bytes.now ++ rest) ≡ out.new.items ++ text self.new rest) }
+        ensures text { OnOk result
+            ((rest : List ℕ) → out.old.items ++ text self.old (bytes.now ++ rest) ≡ out.new.items
+            ++ text self.new rest) }
         ensures appends { OnOk result ((given : List ℕ) × (out.new.items ≡ out.old.items ++ given)) }
         ensures err { OnErr result (out.new.items ≡ out.old.items) };
 
@@ -112,7 +114,8 @@ impl<C: Cipher> Intake for Sealing<C> {
 
     ghost nothing = { λ a. sealing-nothing (C.text a.cipher) a.out.items };
 
-    ghost joined = { λ a b c x y. sealing-joined (C.text a.cipher) (C.text b.cipher) (C.text c.cipher) a.out.items b.out.items c.out.items x y };
+    ghost joined = { λ a b c x y. sealing-joined (C.text a.cipher) (C.text b.cipher) (C.text c.cipher) a.out.items
+        b.out.items c.out.items x y };
 
     #[inline(always)]
     fn take_piece(&mut self, bytes: &[u8]) -> Result<(), AllocError> {

@@ -1,37 +1,31 @@
 //! Any algorithm through an operation context.
 
-ghost use Rattle.std.specs.Prelude.{◌≡◌, IfOk};
-ghost use Rattle.ossl_speed.specs.Contexts.{IsEndOf};
+ghost use Rattle.std.specs.Prelude.{◌≡◌, IfOk, OnOk};
+ghost use Rattle.ossl_speed.specs.Contexts.{IsContextFed, IsEndOf};
 ghost use Rattle.ossl_speed.specs.Message.{message};
 
 use crate::cipher::{KEPT, keep_last};
-use crate::intake::{Intake, take_message};
-use crate::message::PIECE;
+use crate::message::{PIECE, front};
 use ossl_codes::Code;
 use ossl_op::{OpCtx, Params};
 use std::alloc::{AllocError, Global};
 
-// A context at work, with the text's last bytes.
-#[derive(Drop)]
-struct Operating {
-    context: OpCtx,
-    out: Vec<u8>,
-}
-
-impl Intake for Operating {
-    ghost use Rattle.ossl_speed.specs.Contexts.{IsContextFed, context-nothing, context-joined};
-
-    ghost fed = { λ a x b. IsContextFed a.context a.out.items x b.context b.out.items };
-
-    ghost nothing = { λ a. context-nothing a.context a.out.items };
-
-    ghost joined = { λ a b c x y. context-joined a.context b.context c.context a.out.items b.out.items c.out.items x y };
-
-    #[inline(always)]
-    fn take_piece(&mut self, bytes: &[u8]) -> Result<(), AllocError> {
-        keep_last(&mut self.out);
-        self.context.feed(bytes, &mut self.out)
+// Feeds an operation the message of so many bytes where its context stands, and keeps the text's last bytes.
+fn feed_message(
+    context: &mut OpCtx,
+    piece: &[u8],
+    length: usize,
+    out: &mut Vec<u8>,
+) -> Result<(), AllocError>
+    requires { piece.now ≡ message PIECE }
+    ensures { OnOk result (IsContextFed context.old out.old.items (message length) context.new out.new.items) }
+{
+    for _i in 0..length / PIECE {
+        keep_last(out);
+        context.feed(piece, out)?;
     }
+    keep_last(out);
+    context.feed(front(piece, length % PIECE), out)
 }
 
 /// The last bytes of what an operation gives of the message of so many bytes. An operation that may not begin, or whose
@@ -47,13 +41,11 @@ pub fn end_in_context(
     requires { piece.now ≡ message PIECE }
     ensures { IfOk result (λ end. IsEndOf code inner params.now (message length) end.items) }
 {
-    let Ok(context) = OpCtx::begin(alloc, code, inner, params) else {
+    let Ok(mut context) = OpCtx::begin(alloc, code, inner, params) else {
         return Err(AllocError);
     };
-    let out = Vec::with_capacity(alloc, PIECE + KEPT)?;
-    let mut operating = Operating { context, out };
-    take_message(&mut operating, piece, length)?;
-    let Operating { context, mut out } = operating;
+    let mut out = Vec::with_capacity(alloc, PIECE + KEPT)?;
+    feed_message(&mut context, piece, length, &mut out)?;
     let Ok(()) = context.finish(&mut out) else {
         return Err(AllocError);
     };

@@ -106,7 +106,8 @@ fn code_of(hash: Hash, piece: &[u8], length: usize) -> Result<HashValue, AllocEr
 
 fn derived(alloc: Global, hash: Hash, piece: &[u8], length: usize) -> Result<Vec<u8>, AllocError>
     requires { piece.now ≡ message PIECE }
-    ensures { IfOk result (λ bytes. bytes.items ≡ hkdf HkdfMode.Both hash (message length) (message 13) (message 10) 42) }
+    ensures { IfOk result (λ bytes. bytes.items
+        ≡ hkdf HkdfMode.Both hash (message length) (message 13) (message 10) 42) }
 {
     let mut key = Vec::new(alloc);
     take_message(&mut key, piece, length)?;

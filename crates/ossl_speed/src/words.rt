@@ -71,8 +71,8 @@ pub fn read_job(words: &[String]) -> Option<Job> {
     Some(Job::Own(work))
 }
 
-// The work of an algorithm, a length of at most 1,073,741,824 bytes, in whole blocks where it wants those, and a count of
-// at least 1.
+// The work of an algorithm, a length of at most 1,073,741,824 bytes, in whole blocks where it wants those, and a count
+// of at least 1.
 fn work_of(name: &str, length: &str, count: &str) -> Option<Work> {
     let algorithm = algorithm::named(name)?;
     let length = number(length)?;

@@ -27,15 +27,15 @@ block-preserved g c =
     let bytes = c.args.room.now in
     let i = c.block.i in
     let room = c.block.room in
-    let text = c.copy_from_slice-in-block.new.self in
-    let block = c.copy_from_slice.ensures.after ∙ block_slice i room ∙ ap (take 16) c.block.invariant.left in
+    let text = c.step_in_place.new.place in
+    let block = block_slice i room ∙ ap (take 16) c.block.invariant.left in
     let within : 16 * i ≤ length room = omega arith in
     let long : length text ≡ 16 * i + 16 - 16 * i = omega arith in
     record {
-      gives = stepped_more out next i v bytes _ _ _ _ _ c.block.invariant.gives c.block.invariant.next block c.step-text.ensures.gives
+      gives = stepped_more out next i v bytes _ _ _ _ _ c.block.invariant.gives c.block.invariant.next block refl
           (take-put_mid (16 * i) (16 * i + 16 - 16 * i) room text (16 * (i + 1)) (omega arith) within
-          ∙ ap (λ (x : List ℕ). take (16 * i) room ++ x) c.copy_from_slice-in-block.ensures.after);
+          ∙ ap (λ (x : List ℕ). take (16 * i) room ++ x) c.step_in_place.ensures.gives);
       left = drop-put_mid (16 * i) (16 * i + 16 - 16 * i) room text (16 * (i + 1)) (omega arith) within long
           ∙ sym (next_left i room) ∙ ap (drop 16) c.block.invariant.left ∙ next_left i bytes;
-      next = value_more out next i v bytes _ _ _ c.block.invariant.next block c.step-text.ensures.next;
+      next = value_more out next i v bytes _ _ _ c.block.invariant.next block c.step_in_place.ensures.next;
     }

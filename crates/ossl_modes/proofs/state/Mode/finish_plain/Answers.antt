@@ -1,4 +1,4 @@
-use Rattle.std.proofs.Common.{ℕ, List, length, take, ap, ◌∙◌, arith}
+use Rattle.std.proofs.Common.{ℕ, length, take, ap, ◌∙◌, arith}
 use Rattle.ossl_blocks.specs.Held.{held_of}
 use Rattle.ossl_modes.specs.Modes.{equations}
 use Rattle.ossl_modes.proofs.Steps.{rest_is}

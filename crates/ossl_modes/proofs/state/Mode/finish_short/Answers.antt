@@ -1,4 +1,4 @@
-use Rattle.std.proofs.Common.{ℕ, List, ◌-◌, ◌++◌, length, take, replicate, ap, sym, ◌∙◌, arith}
+use Rattle.std.proofs.Common.{ℕ, List, ◌-◌, ◌++◌, length, take, replicate, ap, ◌∙◌}
 use Rattle.ossl_blocks.specs.Held.{held_of}
 use Rattle.ossl_modes.proofs.Steps.{padded_short}
 use Rattle.ossl_modes.proofs.state.Mode.finish_short.Goals as goal

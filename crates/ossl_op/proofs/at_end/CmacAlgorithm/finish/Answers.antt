@@ -4,7 +4,7 @@ use Rattle.ossl_op.proofs.at_end.CmacAlgorithm.finish.Goals as goal
 
 pub returns-clause-accepted : goal.returns-clause-accepted
 returns-clause-accepted g c = on_ok_weaker c.append.result
-    (λ appended. λ work text given was. at_end_finished work _ c.finish.result text was c.finish.ensures
+    (λ appended. λ work text given was. at_end_finished work _ c.code.result text was c.code.ensures
     (same_text _ _ _ text appended given))
     c.append.ensures.appended
 

@@ -3,12 +3,12 @@ use Rattle.std.proofs.lemmas.List.{take_all}
 use Rattle.ossl_blocks.specs.Held.{held_of}
 use Rattle.ossl_cmac.specs.Cmac.{next_subkey}
 use Rattle.ossl_cmac.proofs.Steps.{ends_whole, ends_short}
-use Rattle.ossl_cmac.proofs.state.Cmac.finish.Goals as goal
-use Rattle.ossl_cmac.proofs.state.Cmac.finish.Goals.{then-count-eq16, else-count-eq16}
+use Rattle.ossl_cmac.proofs.state.Cmac.code.Goals as goal
+use Rattle.ossl_cmac.proofs.state.Cmac.code.Goals.{then-count-eq16, else-count-eq16}
 
 pub returns : goal.returns
 returns g c =
-    let m = c.args.self in
+    let m = c.args.self.now in
     let held = held_of m.buffer in
     let block = c.block-held.result.now in
     let e = g.C.Block.enc m.chain.cipher in
