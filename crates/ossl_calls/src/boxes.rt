@@ -1,4 +1,5 @@
-ghost use Rattle.std.specs.Prelude.{◌≡◌, ◌<◌, ◌^◌, ◌-◌, ℕ, length, map, slice_index, slice_set, IfOk, IsTrue, IsFalse, OnOk, OnErr, vec_len};
+ghost use Rattle.std.specs.Prelude.{◌≡◌, ◌<◌, ◌^◌, ◌-◌, ℕ, length, map, slice_index, slice_set, IfOk, IsTrue, IsFalse};
+ghost use Rattle.std.specs.Prelude.{OnOk, OnErr, vec_len};
 ghost use Rattle.ossl_provider.specs.Members.{is_in};
 ghost use Rattle.ossl_provider.specs.Sheet.{after_start, after_refusal, after_stop};
 ghost use Rattle.ossl_state.specs.Boxes.{sheet_of};

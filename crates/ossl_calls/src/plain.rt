@@ -55,7 +55,12 @@ impl<P: Provider> Model for PlainRegistry<P> {
 
     ghost Value = { Shown P };
 
-    ghost view = { λ r. record { boxes = r.boxes.items; opened = r.opened.items; contexts = r.contexts; entries = r.history.items } };
+    ghost view = { λ r. record {
+      boxes = r.boxes.items;
+      opened = r.opened.items;
+      contexts = r.contexts;
+      entries = r.history.items;
+    } };
 
     ghost invariant = { λ r.
         IsKept (record { facts = map P.facts r.boxes.items; contexts = r.contexts; opened = r.opened.items })
@@ -78,8 +83,8 @@ pub struct Up {
 }
 
 impl<P: Provider> PlainRegistry<P> {
-    /// A registry over a catalogue of boxes, with 1 to 8 library contexts: at most 32 boxes, each with a name of its own, at most
-    /// 256 rows and nothing ever started. Want of memory is the only refusal, and hands the boxes back.
+    /// A registry over a catalogue of boxes, with 1 to 8 library contexts: at most 32 boxes, each with a name of its
+    /// own, at most 256 rows and nothing ever started. Want of memory is the only refusal, and hands the boxes back.
     pub fn open(
         alloc: Global,
         catalogue: Vec<P>,
@@ -117,11 +122,12 @@ impl<P: Provider> PlainRegistry<P> {
         })
     }
 
-    /// Makes a call for a caller, and appends its entry. The caller owns each token that the call names, and the library
-    /// context that it names is one of the registry's.
+    /// Makes a call for a caller, and appends its entry. The caller owns each token that the call names, and the
+    /// library context that it names is one of the registry's.
     ///
-    /// A call that is refused memory leaves all as it was. The calls that give something back are never refused it, nor is
-    /// the closing of an open library context. `steps` is handed to the scores of a fetch; nothing is said of its number.
+    /// A call that is refused memory leaves all as it was. The calls that give something back are never refused it, nor
+    /// is the closing of an open library context. `steps` is handed to the scores of a fetch; nothing is said of its
+    /// number.
     pub fn apply<L: Ledger>(
         &mut self,
         caller: u64,
@@ -182,7 +188,8 @@ impl<P: Provider> PlainRegistry<P> {
     /// The instances that are up, by increasing number.
     pub fn up(&self) -> Result<Vec<Up>, AllocError>
         ensures { IfOk result (λ ups.
-            ups.items ≡ map (λ b. record { place = b.place; number = b.number }) (up_instances (state_of P.facts self.now))) }
+            ups.items ≡ map (λ b. record { place = b.place; number = b.number })
+            (up_instances (state_of P.facts self.now))) }
     {
         let state = &self.state;
         let born = state.born.as_slice();
@@ -244,10 +251,12 @@ impl<P: Provider> PlainRegistry<P> {
         reply: Reply,
         change: Change,
     ) -> Result<Reply, AllocError>
-        requires step { IsNext (fixed_of P.facts self.old) self.old.entries (record { caller = caller; call = call; reply = reply }) }
+        requires step { IsNext (fixed_of P.facts self.old) self.old.entries
+            (record { caller = caller; call = call; reply = reply }) }
         requires there { IsChangeable (state_of P.facts self.old) change }
         requires keeps { let s = state_of P.facts self.old in
-            Keeps (map P.facts self.old.boxes) s (record { caller = caller; call = call; reply = reply }) (changed s change) }
+            Keeps (map P.facts self.old.boxes) s (record { caller = caller; call = call; reply = reply })
+            (changed s change) }
         ensures entry { IfOk result (Appends self.old self.new caller call) }
         ensures fixed { fixed_of P.facts self.new ≡ fixed_of P.facts self.old }
         ensures err { OnErr result (self.new ≡ self.old) }
@@ -268,9 +277,12 @@ impl<P: Provider> PlainRegistry<P> {
 
     /// Appends an entry by which something goes, and stops each instance that goes with it.
     fn take_down(&mut self, caller: u64, call: Call, going: &Going) -> Reply
-        requires step { IsNext (fixed_of P.facts self.old) self.old.entries (record { caller = caller; call = call; reply = answer_of going.now }) }
-        requires takes { Takes (map P.facts self.old.boxes) (state_of P.facts self.old) (record { caller = caller; call = call; reply = answer_of going.now }) going.now }
-        requires room { let s = state_of P.facts self.old in giving_back (without_going s going.now) + 1 ≤ giving_back s + returned_by going.now }
+        requires step { IsNext (fixed_of P.facts self.old) self.old.entries
+            (record { caller = caller; call = call; reply = answer_of going.now }) }
+        requires takes { Takes (map P.facts self.old.boxes) (state_of P.facts self.old)
+            (record { caller = caller; call = call; reply = answer_of going.now }) going.now }
+        requires room { let s = state_of P.facts self.old in
+            giving_back (without_going s going.now) + 1 ≤ giving_back s + returned_by going.now }
         requires returned { let lent = lent_after self.old.entries in
             length (lent_by lent caller call (answer_of going.now)) + returned_by going.now ≤ length lent }
         ensures entry { Appends self.old self.new caller call result }

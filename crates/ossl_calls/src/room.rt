@@ -6,8 +6,8 @@ use ossl_state::call::{Call, Entry, Reply};
 use ossl_state::state::{LibCtx, State};
 use std::alloc::AllocError;
 
-/// The places that one more entry takes at most: its own, and one to give back each thing that it may hand out, an element and
-/// an activation.
+/// The places that one more entry takes at most: its own, and one to give back each thing that it may hand out, an
+/// element and an activation.
 pub const ONE_MORE: usize = 3;
 
 fn count_open(libs: &[LibCtx]) -> usize
@@ -44,7 +44,8 @@ pub fn record(
     requires room { vec_len history.old < vec_capacity history.old }
     requires few { lent.old < 2 ^ 64 - 1 }
     requires number { state.old.next < 2 ^ 64 - 1 }
-    ensures items { history.new.items ≡ history.old.items ++ record { caller = caller; call = call; reply = reply } ∷ [] }
+    ensures items { history.new.items ≡ history.old.items
+        ++ record { caller = caller; call = call; reply = reply } ∷ [] }
     ensures len { vec_len history.new ≡ vec_len history.old + 1 }
     ensures capacity { vec_capacity history.new ≡ vec_capacity history.old }
     ensures lent { lent.new ≡ lent.old + lent_with reply }

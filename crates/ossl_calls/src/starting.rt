@@ -10,7 +10,8 @@ use ossl_provider::provider::{Provider, Refused};
 use ossl_state::mark::{Mark, take_back};
 use ossl_state::state::State;
 
-/// Starts the provider at a place, where it has to be started. Where it refuses, what its entry has put into the state is taken back.
+/// Starts the provider at a place, where it has to be started. Where it refuses, what its entry has put into the state
+/// is taken back.
 pub fn start_or_take_back<P: Provider>(
     boxes: &mut Vec<P>,
     state: &mut State,

@@ -20,7 +20,8 @@ pub fn stop_going<P: Provider>(boxes: &mut Vec<P>, state: &State, going: &Going)
     requires up { (k : ℕ) → k < vec_len boxes.old → (sheet_of (map P.sheet boxes.old.items) k).up ≡ up_at state.now k }
     ensures facts { map P.facts boxes.new.items ≡ map P.facts boxes.old.items }
     ensures sheets { (k : ℕ) → k < vec_len boxes.old →
-        sheet_of (map P.sheet boxes.new.items) k ≡ with_up (sheet_of (map P.sheet boxes.old.items) k) (up_at (without_going state.now going.now) k) }
+        sheet_of (map P.sheet boxes.new.items) k
+        ≡ with_up (sheet_of (map P.sheet boxes.old.items) k) (up_at (without_going state.now going.now) k) }
 {
     for b in state.born.as_slice() {
         if is_up_instance(state, b) && !is_up_without(state, going, b) {

@@ -4,6 +4,8 @@ pub mod WorkedFaults
 pub mod WorkedLimits
 pub mod FilesLaws
 pub mod TextLaws
+pub mod SearchLaws
+pub mod QueryLaws
 pub mod JudgingLaws
 pub mod AmountLaws
 pub mod ScriptLaws

@@ -2,6 +2,7 @@
 pub mod Kind
 pub mod Limit
 pub mod Lines
+pub mod Starts
 pub mod Words
 pub mod Named
 pub mod Table

@@ -172,7 +172,7 @@ pub fn passed_limit(all: u64, lines: &[Line], lengths: &[u64]) -> Option<Limit>
     ensures limit { result ≡ passed_limit all lines.now lengths.now }
 {
     let by_text = passed(all, lines, &[]);
-    if by_text.is_some() {
+    if by_text.is_some() || lengths.is_empty() {
         return by_text;
     }
     if is_file_passed(lengths) {

@@ -171,5 +171,6 @@ pub fn arguments(
         let next = argument(alloc, files, verb, said.as_slice(), word)?;
         said.push(next)?;
     }
+    said.shrink_to_fit();
     Ok(said)
 }

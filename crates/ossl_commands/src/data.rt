@@ -9,6 +9,7 @@ use crate::command::Data;
 use crate::files::NamedFiles;
 use crate::word::number;
 use hex::FromHexError;
+use memchr::memchr;
 use ossl_base::text::Bytes;
 use std::alloc::{AllocError, Global};
 
@@ -16,12 +17,8 @@ use std::alloc::{AllocError, Global};
 pub fn cut_at(text: &[u8], separator: u8) -> Option<(&[u8], &[u8])>
     ensures { option_map (λ parts. (parts.0.now, parts.1.now)) result ≡ cut_at separator text.now }
 {
-    for (i, byte) in text.iter().enumerate() {
-        if *byte == separator {
-            return Some((&text[..i], &text[i + 1..]));
-        }
-    }
-    None
+    let end = memchr(separator, text)?;
+    Some((&text[..end], &text[end + 1..]))
 }
 
 /// The bytes of an even number of hexadecimal digits.

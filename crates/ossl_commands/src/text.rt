@@ -6,7 +6,9 @@ ghost use Rattle.std.specs.Str.Lines.{lines, strip_carriage_return};
 ghost use Rattle.ossl_property.specs.Bytes.{front, past};
 ghost use Rattle.ossl_commands.specs.Lines.{before_query, ends_word, is_allowed, is_blank, is_skipped, is_within_line};
 ghost use Rattle.ossl_commands.specs.Lines.{is_within_word, query_text, starts_query, words_of};
+ghost use Rattle.ossl_commands.specs.Starts.{start_at};
 
+use memchr::{memchr, memchr2};
 use std::marker::Model;
 
 fn is_blank(byte: u8) -> bool
@@ -16,17 +18,13 @@ fn is_blank(byte: u8) -> bool
 }
 
 /// How many bytes stand before the first line feed.
+#[tactic(auto, using(crate::proofs::SearchLaws::within_by, crate::proofs::SearchLaws::line_by, crate::proofs::SearchLaws::behind_line_by))]
 fn line_len(text: &[u8]) -> usize
     ensures within { result ≤ length text.now }
     ensures line { take result text.now ≡ front is_within_line text.now }
     ensures behind { drop result text.now ≡ past is_within_line text.now }
 {
-    for (i, byte) in text.iter().enumerate() {
-        if *byte == b'\n' {
-            return i;
-        }
-    }
-    text.len()
+    memchr(b'\n', text).unwrap_or(text.len())
 }
 
 /// The first line of a text that is not empty, and the text behind it. A line ends with a line feed, and a carriage
@@ -78,16 +76,22 @@ pub fn is_skipped(line: &[u8]) -> bool
     }
 }
 
-/// Whether all bytes are tabs or in the range from 32 to 126.
+/// Whether the byte is a tab or in the range from 32 to 126.
+fn is_allowed(byte: u8) -> bool
+    ensures { result ≡ is_allowed byte }
+{
+    byte == b'\t' || (32 <= byte && byte <= 126)
+}
+
+/// Whether all bytes are tabs or in the range from 32 to 126. All are looked at, so that many can be at once.
 pub fn are_allowed(line: &[u8]) -> bool
     ensures allowed { result ≡ list_all is_allowed line.now }
 {
+    let mut are = true;
     for byte in line {
-        if !(*byte == b'\t' || (32 <= *byte && *byte <= 126)) {
-            return false;
-        }
+        are = are & is_allowed(*byte);
     }
-    true
+    are
 }
 
 /// Whether a word ends before this text.
@@ -110,35 +114,40 @@ fn starts_query(at_start: bool, text: &[u8]) -> bool
     }
 }
 
+/// Whether a word may begin at this place of a line.
+fn may_start(line: &[u8], at: usize) -> bool
+    requires { at ≤ length line.now }
+    ensures { result ≡ start_at line.now at }
+{
+    at == 0 || is_blank(line[at - 1])
+}
+
 /// The text before the first word that is `:`, or all of it, and the query text: what stands behind that word.
 pub fn cut_query(line: &[u8]) -> (&[u8], Option<&[u8]>)
     ensures before { result.0.now ≡ before_query true line.now }
     ensures query { option_map (λ query. query.now) result.1 ≡ query_text true line.now }
 {
-    let mut at_start = true;
-    for (i, byte) in line.iter().enumerate() {
-        let (before, rest) = line.split_at(i);
-        if starts_query(at_start, rest) {
-            let (_, query) = line.split_at(i + 1);
+    let mut gone = 0;
+    while let Some(more) = memchr(b':', &line[gone..]) {
+        let at = gone + more;
+        let (before, rest) = line.split_at(at);
+        if starts_query(may_start(line, at), rest) {
+            let (_, query) = line.split_at(at + 1);
             return (before, Some(query));
         }
-        at_start = is_blank(*byte);
+        gone = at + 1;
     }
     (line, None)
 }
 
 /// How many bytes stand before the first space or tab.
+#[tactic(auto, using(crate::proofs::SearchLaws::within_by, crate::proofs::SearchLaws::word_by, crate::proofs::SearchLaws::behind_word_by))]
 fn word_len(text: &[u8]) -> usize
     ensures within { result ≤ length text.now }
     ensures word { take result text.now ≡ front is_within_word text.now }
     ensures behind { drop result text.now ≡ past is_within_word text.now }
 {
-    for (i, byte) in text.iter().enumerate() {
-        if is_blank(*byte) {
-            return i;
-        }
-    }
-    text.len()
+    memchr2(b' ', b'\t', text).unwrap_or(text.len())
 }
 
 /// The words of a text that are left: what stands between spaces and tabs.

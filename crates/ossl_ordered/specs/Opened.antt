@@ -1,5 +1,6 @@
 -- The opening as far as it has come, and how it ends.
-use Rattle.std.specs.Prelude.{ℕ, ◌+◌, ◌-◌, ◌≡◌, Bool, false, not, nat_lt, IsTrue, Option, Some, None, List, [], ◌∷◌, ◌++◌, length, map, slice_index_or, take}
+use Rattle.std.specs.Prelude.{ℕ, ◌+◌, ◌-◌, ◌≡◌, Bool, false, not, nat_lt, IsTrue, Option, Some, None, List, [], ◌∷◌}
+use Rattle.std.specs.Prelude.{◌++◌, length, map, slice_index_or, take}
 use Rattle.std.specs.List.{list_all, list_any}
 use Rattle.ossl_base.specs.declared.entry.Entry.{Entry}
 use Rattle.ossl_conf.specs.View.{SettingsView}

@@ -1,5 +1,6 @@
 -- The program's own calls, by caller 0: the opening that a configuration asks for, and the closing.
-use Rattle.std.specs.Prelude.{ℕ, ◌-◌, ◌≡◌, Bool, true, false, not, IsTrue, Option, Some, None, List, [], ◌∷◌, ◌++◌, filter_map, length, map, reverse, take}
+use Rattle.std.specs.Prelude.{ℕ, ◌-◌, ◌≡◌, Bool, true, false, not, IsTrue, Option, Some, None, List, [], ◌∷◌, ◌++◌}
+use Rattle.std.specs.Prelude.{filter_map, length, map, reverse, take}
 use Rattle.std.specs.List.{list_all, list_any, range_with_len}
 use Rattle.ossl_base.specs.declared.entry.Entry.{Entry}
 use Rattle.ossl_state.specs.declared.call.Call.{Call}

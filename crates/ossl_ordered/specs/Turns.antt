@@ -1,6 +1,7 @@
 -- The order of a run: whose turn it is after the entries so far, by a list of callers, and behind the list by the
 -- order of the text.
-use Rattle.std.specs.Prelude.{ℕ, ◌-◌, ◌≡◌, ◌<◌, ◌≤◌, ⊤, Bool, true, false, nat_lt, Ok, Option, Some, None, option_map, List, [], ◌∷◌, ◌++◌, filter_map, fold, length, map, slice_index_or, if◌then◌else◌}
+use Rattle.std.specs.Prelude.{ℕ, ◌-◌, ◌≡◌, ◌<◌, ◌≤◌, ⊤, Bool, true, false, nat_lt, Ok, Option, Some, None, option_map}
+use Rattle.std.specs.Prelude.{List, [], ◌∷◌, ◌++◌, filter_map, fold, length, map, slice_index_or, if◌then◌else◌}
 use Rattle.std.specs.List.{flat_map, range_with_len}
 use Rattle.std.specs.Option.{option_or}
 use Rattle.ossl_base.specs.declared.entry.Entry.{Entry}

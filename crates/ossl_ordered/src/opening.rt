@@ -3,7 +3,8 @@
 ghost use Rattle.std.specs.Prelude.{◌≡◌, ◌<◌, [], true, IfErr, OnOk};
 ghost use Rattle.std.specs.Option.{option_copied};
 ghost use Rattle.ossl_ordered.specs.Opening.{IsOpened, activation_in};
-ghost use Rattle.ossl_ordered.specs.Opened.{AddsDefault, AddsLoad, AreLoaded, EndsLoad, EndsLoads, EndsOpening, IsLoading};
+ghost use Rattle.ossl_ordered.specs.Opened.{AddsDefault, AddsLoad, AreLoaded, EndsLoad, EndsLoads, EndsOpening};
+ghost use Rattle.ossl_ordered.specs.Opened.{IsLoading};
 
 use crate::program::Program;
 use ossl_base::Text;

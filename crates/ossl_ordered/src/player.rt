@@ -48,9 +48,10 @@ impl Player {
 
     /// Its turn: the line of its next call; none where its lines are done.
     ///
-    /// The laws of runs: one that goes by the text alone takes the lines one after the other; whatever list goes before, a
-    /// run holds each caller's calls once and in its order, the program's before and behind them; nothing but a refused
-    /// start lets one run differ from another; and a run in a stated order is a run as callers in threads make it.
+    /// The laws of runs: one that goes by the text alone takes the lines one after the other; whatever list goes
+    /// before, a run holds each caller's calls once and in its order, the program's before and behind them; nothing but
+    /// a refused start lets one run differ from another; and a run in a stated order is a run as callers in threads
+    /// make it.
     pub fn turn(&self) -> Option<Turn>
         ensures turn { result ≡ turn_in self.now }
         ensures order_of_text { OrderOfText }

@@ -3,7 +3,8 @@
 ghost use Rattle.std.specs.Prelude.{◌≡◌, ◌<◌, ◌+◌, [], length, IfNone, IfSome, OnErr, OnOk};
 ghost use Rattle.ossl_calls.specs.Registry.{fixed_of};
 ghost use Rattle.ossl_state.specs.History.{IsLegal};
-ghost use Rattle.ossl_ordered.specs.Work.{AreEnded, AreReady, HasCall, IsPassed, Runs, RunsBy, RunsInTurn, TakesAt, Working};
+ghost use Rattle.ossl_ordered.specs.Work.{AreEnded, AreReady, HasCall, IsPassed, Runs, RunsBy, RunsInTurn, TakesAt};
+ghost use Rattle.ossl_ordered.specs.Work.{Working};
 
 use crate::desk::Desk;
 use crate::player::Player;

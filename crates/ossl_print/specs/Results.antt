@@ -1,5 +1,6 @@
 -- The printed results: one for each line of a batch, in the order of its text.
-use Rattle.std.specs.Prelude.{ℕ, ◌-◌, ◌≡◌, ◌≤◌, ◌<◌, nat_eq, nat_lt, nat_le, ◌&&◌, IsTrue, unwrap_or, List, [], ◌++◌, codes, find, length, map, slice_index_or}
+use Rattle.std.specs.Prelude.{ℕ, ◌-◌, ◌≡◌, ◌≤◌, ◌<◌, nat_eq, nat_lt, nat_le, ◌&&◌, IsTrue, unwrap_or, List, [], ◌++◌}
+use Rattle.std.specs.Prelude.{codes, find, length, map, slice_index_or}
 use Rattle.std.specs.List.{flat_map, list_all}
 use Rattle.std.specs.Fmt.{decimal}
 use Rattle.ossl_commands.specs.declared.command.Line.{Line}

@@ -1,15 +1,18 @@
 //! The printed order.
 
-ghost use Rattle.std.specs.Prelude.{◌≡◌, ◌<◌, ◌++◌, codes, length, map, nat_eq, position, option_map, option_to_list, IfSome, OnOk, OnErr};
+ghost use Rattle.std.specs.Prelude.{◌≡◌, ◌<◌, ◌++◌, codes, length, map, nat_eq, position, option_map, option_to_list};
+ghost use Rattle.std.specs.Prelude.{IfSome, OnOk, OnErr};
 ghost use Rattle.std.specs.Fmt.{decimal};
-ghost use Rattle.ossl_print.specs.Order.{batch_caller, instance_text, lines_of, mark_at, mark_text, order_text, showing_of, told_text};
+ghost use Rattle.ossl_print.specs.Order.{batch_caller, instance_text, lines_of, mark_at, mark_text, order_text};
+ghost use Rattle.ossl_print.specs.Order.{showing_of, told_text};
 ghost use Rattle.ossl_state.specs.Text.{entry_text};
 ghost use Rattle.ossl_watch.specs.Changes.{IsHistory, fixed_over};
 
-use crate::text::write_decimal;
+use crate::text::{put_whole, write_decimal};
 use ossl_provider::Provider;
 use ossl_state::element::name_at;
-use ossl_state::{Entry, Reply, put_entry};
+use ossl_state::put::write_entry;
+use ossl_state::{Entry, Reply};
 use ossl_watch::{Change, Up, Watch};
 use std::alloc::{AllocError, Global};
 
@@ -41,7 +44,7 @@ pub fn put_order<P: Provider>(
     write_order(
         alloc, &mut text, catalogue, contexts, history, callers, marks,
     )?;
-    out.extend_from_slice(text.as_slice())
+    put_whole(out, text)
 }
 
 /// Writes the printed order; this and the private writers below may leave a part where memory is refused.
@@ -98,7 +101,7 @@ fn write_numbered(
     out.extend_from_slice(b" ")?;
     write_decimal(out, caller)?;
     out.extend_from_slice(b" ")?;
-    put_entry(alloc, out, entry)
+    write_entry(alloc, out, entry)
 }
 
 /// The mark of an entry, counted from 1, where there are marks.

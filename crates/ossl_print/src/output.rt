@@ -9,6 +9,7 @@ ghost use Rattle.ossl_watch.specs.Changes.{IsHistory, fixed_over};
 
 use crate::order::write_order;
 use crate::results::write_results;
+use crate::text::put_whole;
 use ossl_commands::Line;
 use ossl_provider::Provider;
 use ossl_script::LineResult;
@@ -66,5 +67,5 @@ pub fn put_output<P: Provider>(
         run.marks,
     )?;
     write_results(alloc, &mut text, run.lines, run.results)?;
-    out.extend_from_slice(text.as_slice())
+    put_whole(out, text)
 }

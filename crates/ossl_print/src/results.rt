@@ -4,7 +4,7 @@ ghost use Rattle.std.specs.Prelude.{◌≡◌, ◌<◌, ◌++◌, length, map, r
 ghost use Rattle.std.specs.Fmt.{decimal};
 ghost use Rattle.ossl_print.specs.Results.{AreTold, result_line, results_by, results_text, told_to};
 
-use crate::text::write_decimal;
+use crate::text::{put_whole, write_decimal};
 use ossl_commands::Line;
 use ossl_script::LineResult;
 use std::alloc::{AllocError, Global};
@@ -24,7 +24,7 @@ pub fn put_results(
 {
     let mut text = Vec::new(alloc);
     write_results(alloc, &mut text, lines, results)?;
-    out.extend_from_slice(text.as_slice())
+    put_whole(out, text)
 }
 
 /// Writes the results; these private writers may leave a part where memory is refused.

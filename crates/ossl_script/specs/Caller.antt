@@ -1,5 +1,6 @@
--- What a caller does: from the lines of the batch, what the files hold and the replies that it got so far, its next call with the number of its line,
--- or the end of its lines; the calls by which it gives back what it then holds; and what is printed of its lines.
+-- What a caller does: from the lines of the batch, what the files hold and the replies that it got so far, its next
+-- call with the number of its line, or the end of its lines; the calls by which it gives back what it then holds; and
+-- what is printed of its lines.
 use Rattle.std.specs.Prelude.{ℕ, ◌≡◌, ⊤, nat_eq, Option, Some, None, List, [], ◌∷◌, ◌++◌, filter, fold}
 use Rattle.ossl_base.specs.declared.entry.Entry.{Entry}
 use Rattle.ossl_state.specs.declared.call.Call.{Call}
@@ -18,7 +19,8 @@ use Rattle.ossl_script.specs.Given.{Content, content_by}
 use Rattle.ossl_script.specs.Held.{held_after, give_back_calls}
 use Rattle.ossl_script.specs.Outcome.{outcome_text}
 
--- where a caller stands: at a call of a line, with the course behind each reply and the lines behind that line; or behind its last line
+-- where a caller stands: at a call of a line, with the course behind each reply and the lines behind that line; or
+-- behind its last line
 pub data Place : Type 0 where
   asking : ℕ → Call → (Reply → Course) → List Line → Place
   ended : Place
@@ -32,12 +34,16 @@ pub record Standing : Type 0 where
 abbrev pub line_result : ℕ → Outcome → LineResult
 line_result number outcome = record { line = number; text = outcome_text outcome }
 
--- a line takes its course up to its next call; where it has none, its result is told, and the next line begins with what is bound then
+-- a line takes its course up to its next call; where it has none, its result is told, and the next line begins with
+-- what is bound then
 abbrev pub goes_on : Content → List Held → List LineResult → ℕ → Course → List Line → Standing
-goes_on content held told number (ask call follows) lines = record { told = told; held = held; place = asking number call follows lines }
-goes_on content held told number (said outcome bindings) [] = record { told = told ++ line_result number outcome ∷ []; held = held; place = ended }
+goes_on content held told number (ask call follows) lines =
+    record { told = told; held = held; place = asking number call follows lines }
+goes_on content held told number (said outcome bindings) [] =
+    record { told = told ++ line_result number outcome ∷ []; held = held; place = ended }
 goes_on content held told number (said outcome bindings) (line ∷ lines) =
-    goes_on content held (told ++ line_result number outcome ∷ []) line.number (course_of content bindings line.command) lines
+    goes_on content held (told ++ line_result number outcome ∷ []) line.number (course_of content bindings line.command)
+    lines
 
 -- before any reply: nothing is bound or held, and the first line begins
 abbrev pub opening : Content → List Line → Standing
@@ -61,7 +67,8 @@ lines_of caller lines = filter (λ line. nat_eq line.caller caller) lines
 abbrev pub stands : Content → List Line → List Reply → Standing
 stands content lines replies = fold (after_reply content) (opening content lines) replies
 
--- where a caller of a batch stands after its replies so far, given the contents of the files in the order of their first naming
+-- where a caller of a batch stands after its replies so far, given the contents of the files in the order of their
+-- first naming
 abbrev pub standing_of : List Line → List (List ℕ) → ℕ → List Reply → Standing
 standing_of lines contents caller replies = stands (content_by contents) (lines_of caller lines) replies
 
@@ -73,7 +80,8 @@ next_at ended = nexts.End
 abbrev pub next_call : List Line → List (List ℕ) → ℕ → List Reply → Next
 next_call lines contents caller replies = next_at (standing_of lines contents caller replies).place
 
--- the calls by which a caller gives back what it holds after these replies, the greatest number first: at the end of its lines, or wherever it stops
+-- the calls by which a caller gives back what it holds after these replies, the greatest number first: at the end of
+-- its lines, or wherever it stops
 abbrev pub giving_back : List Line → List (List ℕ) → ℕ → List Reply → List Call
 giving_back lines contents caller replies = give_back_calls (standing_of lines contents caller replies).held
 
@@ -86,7 +94,10 @@ abbrev pub call_in : Next → Option Call
 call_in (nexts.Call line call) = Some call
 call_in nexts.End = None
 
--- after these replies the calls of the entries are, one by one, the caller's next calls, under whatever number it stands in the history
+-- after these replies the calls of the entries are, one by one, the caller's next calls, under whatever number it
+-- stands in the history
 abbrev pub Follows : List Line → List (List ℕ) → ℕ → List Reply → List (Entry Call Reply) → Type 0
 Follows lines contents caller replies [] = ⊤
-Follows lines contents caller replies (e ∷ es) = (call_in (next_call lines contents caller replies) ≡ Some e.call) × Follows lines contents caller (replies ++ e.reply ∷ []) es
+Follows lines contents caller replies (e ∷ es) =
+    (call_in (next_call lines contents caller replies) ≡ Some e.call)
+    × Follows lines contents caller (replies ++ e.reply ∷ []) es

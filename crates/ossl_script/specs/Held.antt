@@ -28,7 +28,8 @@ handed_out call reply = None
 -- a token takes its place, the greatest number first
 abbrev pub with_token : Held → List Held → List Held
 with_token token [] = token ∷ []
-with_token token (first ∷ held) = if nat_lt token.number first.number then first ∷ with_token token held else token ∷ first ∷ held
+with_token token (first ∷ held) =
+    if nat_lt token.number first.number then first ∷ with_token token held else token ∷ first ∷ held
 
 abbrev pub with_handed : Option Held → List Held → List Held
 with_handed None held = held
@@ -38,13 +39,15 @@ with_handed (Some token) held = with_token token held
 abbrev pub left_by : Call → Reply → List Held → List Held
 left_by call reply held = filter (λ token. not (gives_up_by call reply token.number (token_of token.kind))) held
 
--- the tokens held after a call and its reply: those held before, without the one that the call gives back, and with the one that it hands out
+-- the tokens held after a call and its reply: those held before, without the one that the call gives back, and with the
+-- one that it hands out
 abbrev pub held_after : Call → Reply → List Held → List Held
 held_after call reply held = with_handed (handed_out call reply) (left_by call reply held)
 
 -- the call that gives a token back
 abbrev pub give_back_call : Held → Call
-give_back_call token = elim token.kind [ Activation ↦ Unload token.number | Method ↦ Free token.number | Context ↦ FreeCtx token.number ]
+give_back_call token = elim token.kind
+    [ Activation ↦ Unload token.number | Method ↦ Free token.number | Context ↦ FreeCtx token.number ]
 
 -- the calls that give these tokens back, in their order
 abbrev pub give_back_calls : List Held → List Call

@@ -1,5 +1,6 @@
 -- Laws of what callers do.
-use Rattle.std.specs.Prelude.{ℕ, ◌≡◌, ◌+◌, ◌≤◌, ⊤, true, false, Option, Some, None, List, [], ◌∷◌, ◌++◌, map, option_map}
+use Rattle.std.specs.Prelude.{ℕ, ◌≡◌, ◌+◌, ◌≤◌, ⊤, true, false, Option, Some, None, List, [], ◌∷◌, ◌++◌, map}
+use Rattle.std.specs.Prelude.{option_map}
 use Rattle.ossl_base.specs.declared.entry.Entry.{Entry}
 use Rattle.ossl_state.specs.declared.call.Call.{Call}
 use Rattle.ossl_state.specs.declared.call.Call.TheVariants.{Unload, UpRef, Free, NewCtx, FreeCtx}
@@ -25,17 +26,21 @@ use Rattle.ossl_script.specs.Held.{handed_out, is_held}
 -- a further reply is one step more
 abbrev pub GoesByReply : Type 0
 GoesByReply = (lines : List Line) (contents : List (List ℕ)) (caller : ℕ) (replies : List Reply) (reply : Reply)
-    → standing_of lines contents caller (replies ++ reply ∷ []) ≡ after_reply (content_by contents) (standing_of lines contents caller replies) reply
+    → standing_of lines contents caller (replies ++ reply ∷ [])
+    ≡ after_reply (content_by contents) (standing_of lines contents caller replies) reply
 
 -- what a caller holds is what it owns by its entries
 abbrev pub HeldIsOwned : Type 0
 HeldIsOwned = (lines : List Line) (contents : List (List ℕ)) (caller : ℕ) (made : List (Entry Call Reply))
     → Follows lines contents caller [] made
-    → (t : ℕ) (token : Token) → is_held (standing_of lines contents caller (map (λ e. e.reply) made)).held t token ≡ owns made t token
+    → (t : ℕ) (token : Token)
+    → is_held (standing_of lines contents caller (map (λ e. e.reply) made)).held t token ≡ owns made t token
 
--- where a caller has made its calls, up to any moment, and then gives back, whatever the replies to that, it owns no token
+-- where a caller has made its calls, up to any moment, and then gives back, whatever the replies to that, it owns no
+-- token
 abbrev pub GivingBackLeavesNone : Type 0
-GivingBackLeavesNone = (lines : List Line) (contents : List (List ℕ)) (caller : ℕ) (made given : List (Entry Call Reply))
+GivingBackLeavesNone = (lines : List Line) (contents : List (List ℕ)) (caller : ℕ)
+    (made given : List (Entry Call Reply))
     → Follows lines contents caller [] made
     → map (λ e. e.call) given ≡ giving_back lines contents caller (map (λ e. e.reply) made)
     → (t : ℕ) (token : Token) → owns (made ++ given) t token ≡ false
@@ -50,14 +55,18 @@ abbrev pub least_behind : ℕ → Option Held → ℕ
 least_behind least None = least
 least_behind least (Some token) = token.number + 1
 
--- each of these entries that hands out a token hands out a greater number than those before it, the first at least this one, as entries of a history do
+-- each of these entries that hands out a token hands out a greater number than those before it, the first at least this
+-- one, as entries of a history do
 abbrev pub Rises : ℕ → List (Entry Call Reply) → Type 0
 Rises least [] = ⊤
-Rises least (e ∷ es) = IsFrom least (handed_out e.call e.reply) × Rises (least_behind least (handed_out e.call e.reply)) es
+Rises least (e ∷ es) = IsFrom least (handed_out e.call e.reply)
+    × Rises (least_behind least (handed_out e.call e.reply)) es
 
--- where tokens are handed out by rising numbers, each call that comes next names tokens that the caller owns, each of the kind that the call takes
+-- where tokens are handed out by rising numbers, each call that comes next names tokens that the caller owns, each of
+-- the kind that the call takes
 abbrev pub CallsAreOwned : Type 0
-CallsAreOwned = (lines : List Line) (contents : List (List ℕ)) (caller : ℕ) (made : List (Entry Call Reply)) (line : ℕ) (call : Call)
+CallsAreOwned = (lines : List Line) (contents : List (List ℕ)) (caller : ℕ) (made : List (Entry Call Reply)) (line : ℕ)
+    (call : Call)
     → Follows lines contents caller [] made
     → Rises 0 made
     → next_call lines contents caller (map (λ e. e.reply) made) ≡ nexts.Call line call
@@ -65,22 +74,27 @@ CallsAreOwned = (lines : List Line) (contents : List (List ℕ)) (caller : ℕ) 
 
 -- each call that comes next names library contexts that the batch names
 abbrev pub CallsNameContexts : Type 0
-CallsNameContexts = (lines : List Line) (contents : List (List ℕ)) (caller : ℕ) (replies : List Reply) (line : ℕ) (call : Call) (contexts : ℕ)
+CallsNameContexts = (lines : List Line) (contents : List (List ℕ)) (caller : ℕ) (replies : List Reply) (line : ℕ)
+    (call : Call) (contexts : ℕ)
     → contexts_of lines ≤ contexts
     → next_call lines contents caller replies ≡ nexts.Call line call
     → names_context contexts call ≡ true
 
--- where tokens are handed out by rising numbers, each call that gives back names a token that is owned after those before it, whatever the replies to these
+-- where tokens are handed out by rising numbers, each call that gives back names a token that is owned after those
+-- before it, whatever the replies to these
 abbrev pub GivingBackIsOwned : Type 0
-GivingBackIsOwned = (lines : List Line) (contents : List (List ℕ)) (caller : ℕ) (made given : List (Entry Call Reply)) (call : Call) (more : List Call)
+GivingBackIsOwned = (lines : List Line) (contents : List (List ℕ)) (caller : ℕ) (made given : List (Entry Call Reply))
+    (call : Call) (more : List Call)
     → Follows lines contents caller [] made
     → Rises 0 made
     → map (λ e. e.call) given ++ call ∷ more ≡ giving_back lines contents caller (map (λ e. e.reply) made)
     → owns_named (made ++ given) call ≡ true
 
--- where a caller's entries in a legal history are the calls that came next, it may make the call that comes next, over at least as many library contexts as the batch names
+-- where a caller's entries in a legal history are the calls that came next, it may make the call that comes next, over
+-- at least as many library contexts as the batch names
 abbrev pub CallsAreAllowed : Type 0
-CallsAreAllowed = (lines : List Line) (contents : List (List ℕ)) (caller : ℕ) (fixed : Fixed) (history : List (Entry Call Reply)) (number line : ℕ) (call : Call)
+CallsAreAllowed = (lines : List Line) (contents : List (List ℕ)) (caller : ℕ) (fixed : Fixed)
+    (history : List (Entry Call Reply)) (number line : ℕ) (call : Call)
     → IsLegal fixed history
     → Follows lines contents caller [] (entries_of number history)
     → contexts_of lines ≤ fixed.contexts
@@ -89,7 +103,9 @@ CallsAreAllowed = (lines : List Line) (contents : List (List ℕ)) (caller : ℕ
 
 -- and where those that give back came behind these, it may make the next one that gives back
 abbrev pub GivingBackIsAllowed : Type 0
-GivingBackIsAllowed = (lines : List Line) (contents : List (List ℕ)) (caller : ℕ) (fixed : Fixed) (history : List (Entry Call Reply)) (number : ℕ) (made given : List (Entry Call Reply)) (call : Call) (more : List Call)
+GivingBackIsAllowed = (lines : List Line) (contents : List (List ℕ)) (caller : ℕ) (fixed : Fixed)
+    (history : List (Entry Call Reply)) (number : ℕ) (made given : List (Entry Call Reply)) (call : Call)
+    (more : List Call)
     → IsLegal fixed history
     → entries_of number history ≡ made ++ given
     → Follows lines contents caller [] made
@@ -118,7 +134,8 @@ renamed_next tokens nexts.End = nexts.End
 
 -- with other numbers in the replies a caller's results are the same, and its next call names its tokens by these
 abbrev pub ResultsNameNoToken : Type 0
-ResultsNameNoToken = (lines : List Line) (contents : List (List ℕ)) (caller : ℕ) (replies : List Reply) (tokens instances : ℕ → ℕ)
+ResultsNameNoToken = (lines : List Line) (contents : List (List ℕ)) (caller : ℕ) (replies : List Reply)
+    (tokens instances : ℕ → ℕ)
     → let others = map (renumbered tokens instances) replies in
     (results_of lines contents caller others ≡ results_of lines contents caller replies)
     × (next_call lines contents caller others ≡ renamed_next tokens (next_call lines contents caller replies))
@@ -138,17 +155,20 @@ filled_argument content argument = argument
 abbrev pub filled_command : Content → Command → Command
 filled_command content (Open used bound arguments) = Open used bound (map (filled_argument content) arguments)
 filled_command content (Feed used arguments) = Feed used (map (filled_argument content) arguments)
-filled_command content (Perform operation algorithm arguments query) = Perform operation algorithm (map (filled_argument content) arguments) query
+filled_command content (Perform operation algorithm arguments query) =
+    Perform operation algorithm (map (filled_argument content) arguments) query
 filled_command content command = command
 
 -- a line with the bytes of its data in place of files
 abbrev pub filled_line : Content → Line → Line
 filled_line content line = record line { command = filled_command content line.command }
 
--- a caller's next call, its results and what it gives back follow from its own lines, with what their files hold, and its replies: other callers' lines may be others
+-- a caller's next call, its results and what it gives back follow from its own lines, with what their files hold, and
+-- its replies: other callers' lines may be others
 abbrev pub OwnLinesAlone : Type 0
 OwnLinesAlone = (lines others : List Line) (contents other_contents : List (List ℕ)) (caller : ℕ) (replies : List Reply)
-    → map (filled_line (content_by other_contents)) (lines_of caller others) ≡ map (filled_line (content_by contents)) (lines_of caller lines)
+    → map (filled_line (content_by other_contents)) (lines_of caller others)
+    ≡ map (filled_line (content_by contents)) (lines_of caller lines)
     → (next_call others other_contents caller replies ≡ next_call lines contents caller replies)
     × (results_of others other_contents caller replies ≡ results_of lines contents caller replies)
     × (giving_back others other_contents caller replies ≡ giving_back lines contents caller replies)

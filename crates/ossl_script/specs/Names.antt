@@ -21,7 +21,8 @@ bound_at names name = get_by (λ key. slice_cmp nat_cmp name key.items) names
 
 -- at one name this is kept, or nothing, and at others what was kept before
 abbrev pub Rebinds : Names → Names → List ℕ → Option Bound → Type 0
-Rebinds old new name bound = (other : List ℕ) → bound_at new other ≡ (if bytes_eq name other then bound else bound_at old other)
+Rebinds old new name bound =
+    (other : List ℕ) → bound_at new other ≡ (if bytes_eq name other then bound else bound_at old other)
 
 -- an operation under way that gave this
 abbrev pub work_of : Operating → List ℕ → Work
@@ -38,7 +39,8 @@ abbrev pub StandsFor : Option Bound → Option Binding → Type 0
 StandsFor None None = ⊤
 StandsFor (Some (kept.Activation token)) (Some (activation bound)) = token ≡ bound
 StandsFor (Some (kept.Method one)) (Some (method bound)) = one ≡ bound
-StandsFor (Some (kept.Running one)) (Some (running bound)) = (one.token ≡ bound.token) × Runs one.context (work_of bound one.given.items)
+StandsFor (Some (kept.Running one)) (Some (running bound)) =
+    (one.token ≡ bound.token) × Runs one.context (work_of bound one.given.items)
 StandsFor (Some (kept.Finished token)) (Some (finished bound)) = token ≡ bound
 StandsFor one bound = ⊥
 

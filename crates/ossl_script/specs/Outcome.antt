@@ -12,7 +12,9 @@ use Rattle.ossl_state.specs.declared.call.Reply.{Reply}
 use Rattle.ossl_state.specs.declared.call.Reply.TheVariants.{NoLib, NoProvider, StartRefused, Unsupported, NotAdmitted}
 use Rattle.ossl_state.specs.Text.{reply_text}
 use Rattle.ossl_script.specs.declared.outcome.Outcome.{Outcome}
-use Rattle.ossl_script.specs.declared.outcome.Outcome.TheVariants.{Done, Loaded, Fetched, Finished, Performed, BadQuery, UnknownName, NotLoaded, WrongKind, Bound, Refused, NotBegun, NotFinished}
+use Rattle.ossl_script.specs.declared.outcome.Outcome.TheVariants.{Done, Loaded, Fetched, Finished, Performed, BadQuery}
+use Rattle.ossl_script.specs.declared.outcome.Outcome.TheVariants.{UnknownName, NotLoaded, WrongKind, Bound, Refused}
+use Rattle.ossl_script.specs.declared.outcome.Outcome.TheVariants.{NotBegun, NotFinished}
 
 -- the replies that refuse a call
 abbrev pub is_refusal : Reply → Bool

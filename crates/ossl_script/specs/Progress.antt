@@ -23,7 +23,8 @@ use Rattle.ossl_script.specs.Stages.{after}
 -- where these lines lead, from these results and bindings on
 abbrev pub from_here : Content → List Held → List LineResult → Bindings → List Line → Standing
 from_here content held told bindings [] = record { told = told; held = held; place = ended }
-from_here content held told bindings (line ∷ lines) = goes_on content held told line.number (course_of content bindings line.command) lines
+from_here content held told bindings (line ∷ lines) =
+    goes_on content held told line.number (course_of content bindings line.command) lines
 
 -- the bytes that a line gives its command
 abbrev pub fed_in : Content → Line → List ℕ
@@ -31,9 +32,11 @@ fed_in content line = fed_by content (arguments_in line.command)
 
 -- what is left of a line is settled
 abbrev pub Settled : Progress → Progress → ℕ → Left → Option Call → Type 0
-Settled old new number (left.Asks asked) (Some call) = (call ≡ asked.call) × (new ≡ record old { stage = Some asked.stage })
+Settled old new number (left.Asks asked) (Some call) =
+    (call ≡ asked.call) × (new ≡ record old { stage = Some asked.stage })
 Settled old new number (left.Said outcome) None =
-    (new.told.items ≡ old.told.items ++ line_result number outcome ∷ []) × (new.names ≡ old.names) × (new.stage ≡ None) × (new.line ≡ old.line + 1)
+    (new.told.items ≡ old.told.items ++ line_result number outcome ∷ []) × (new.names ≡ old.names) × (new.stage ≡ None)
+    × (new.line ≡ old.line + 1)
 Settled old new number course call = ⊥
 
 -- the next line is to begin
@@ -44,7 +47,8 @@ pub record Ready (content : Content) (lines : List Line) (progress : Progress) (
   pub stands : standing ≡ from_here content standing.held progress.told.items bindings (drop progress.line lines)
 
 -- a line waits at a call
-pub record Asked (content : Content) (lines : List Line) (progress : Progress) (standing : Standing) (line : Line) (call : Call) : Type 0 where
+pub record Asked (content : Content) (lines : List Line) (progress : Progress) (standing : Standing) (line : Line)
+    (call : Call) : Type 0 where
   pub bindings : Bindings
   pub agree : Agree progress.names bindings
   pub stage : Stage
@@ -55,10 +59,12 @@ pub record Asked (content : Content) (lines : List Line) (progress : Progress) (
   pub stands : standing.place ≡ asking line.number call (after (fed_in content line) bindings stage) behind
 
 -- its call was answered
-pub record Answered (content : Content) (progress : Progress) (standing : Standing) (line : Line) (behind : List Line) (stage : Stage) (reply : Reply) : Type 0 where
+pub record Answered (content : Content) (progress : Progress) (standing : Standing) (line : Line) (behind : List Line)
+    (stage : Stage) (reply : Reply) : Type 0 where
   pub bindings : Bindings
   pub agree : Agree progress.names bindings
-  pub stands : standing ≡ goes_on content standing.held progress.told.items line.number (after (fed_in content line) bindings stage reply) behind
+  pub stands : standing ≡ goes_on content standing.held progress.told.items line.number
+      (after (fed_in content line) bindings stage reply) behind
 
 -- a line came to a call, or it is done
 abbrev pub Steps : Content → List Line → Progress → Standing → Line → Option Call → Type 0
@@ -75,7 +81,8 @@ Arrives content lines progress standing nexts.End = (standing.told ≡ progress.
 abbrev pub StandsAt : Content → List Line → List Reply → Progress → Standing → Option Stage → Type 0
 StandsAt content lines replies progress standing None = Ready content lines progress standing
 StandsAt content lines replies progress standing (Some stage) =
-    (line : Line) × (behind : List Line) × (earlier : List Reply) × (reply : Reply) × (drop progress.line lines ≡ line ∷ behind)
+    (line : Line) × (behind : List Line) × (earlier : List Reply) × (reply : Reply)
+    × (drop progress.line lines ≡ line ∷ behind)
     × (replies ≡ earlier ++ reply ∷ []) × Answered content progress standing line behind stage reply
 
 abbrev pub Stands : Content → List Line → List Reply → Progress → Standing → Type 0

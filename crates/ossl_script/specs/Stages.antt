@@ -9,7 +9,7 @@ use Rattle.ossl_state.specs.declared.call.Reply.{Reply}
 use Rattle.ossl_script.specs.declared.stage.Asking.{Asking}
 use Rattle.ossl_script.specs.declared.stage.Course.{Course as Left}
 use Rattle.ossl_script.specs.declared.stage.Course.TheVariants as left
-use Rattle.ossl_script.specs.declared.stage.Request.{Request}
+use Rattle.ossl_script.specs.declared.stage.Asked.{Asked}
 use Rattle.ossl_script.specs.declared.stage.Stage.{Stage}
 use Rattle.ossl_script.specs.declared.stage.Stage.TheVariants as stages
 use Rattle.ossl_script.specs.declared.stage.Unfreed.{Unfreed}
@@ -20,7 +20,8 @@ use Rattle.ossl_script.specs.declared.bound.Bound.TheVariants as kept
 use Rattle.ossl_script.specs.declared.bound.Running.{Running}
 use Rattle.ossl_script.specs.declared.outcome.Outcome.{Outcome}
 use Rattle.ossl_script.specs.Bindings.{Bindings, Method, Operating}
-use Rattle.ossl_script.specs.Commands.{after_call, after_fetch, after_giving, after_load, after_open, after_up_ref, course_of}
+use Rattle.ossl_script.specs.Commands.{after_call, after_fetch, after_giving, after_load, after_open, after_up_ref}
+use Rattle.ossl_script.specs.Commands.{course_of}
 use Rattle.ossl_script.specs.Course.{Course, uses_running}
 use Rattle.ossl_script.specs.Course.Course.{ask, said}
 use Rattle.ossl_script.specs.Given.{content_by}
@@ -29,8 +30,9 @@ use Rattle.ossl_script.specs.Whole as whole
 use Rattle.ossl_script.specs.Whole.{Whole, begun, freed}
 
 -- a whole operation on these bytes, where this is bound
-abbrev pub whole_of : List ℕ → Bindings → Request → Whole
-whole_of fed bindings request = record { options = request.options; query = request.query; fed = fed; bindings = bindings }
+abbrev pub whole_of : List ℕ → Bindings → Asked → Whole
+whole_of fed bindings request =
+    record { options = request.options; query = request.query; fed = fed; bindings = bindings }
 
 abbrev pub tokens_in : Unfreed → List ℕ
 tokens_in Nothing = []
@@ -47,7 +49,8 @@ after fed bindings (stages.Open name code inner params) reply =
 after fed bindings (stages.GiveBack name) reply = after_giving name bindings reply
 after fed bindings stages.Unbound reply = after_call bindings reply
 after fed bindings (stages.Method request) reply = whole.after_fetch (whole_of fed bindings request) reply
-after fed bindings (stages.Inner request provider used) reply = whole.after_inner (whole_of fed bindings request) provider used reply
+after fed bindings (stages.Inner request provider used) reply =
+    whole.after_inner (whole_of fed bindings request) provider used reply
 after fed bindings (stages.Context request provider used inner) reply =
     whole.after_context (whole_of fed bindings request) provider used inner reply
 after fed bindings (stages.Ending unfreed outcome) reply = freed (tokens_in unfreed) outcome bindings
@@ -59,7 +62,8 @@ meant fed bindings (left.Said outcome) = said outcome bindings
 
 -- whatever is bound by what is kept, a check lets a command go on with this, or halts it
 abbrev pub Checks : {A : Type 0} → (Bindings → Type 0) → Result A Halt → (Bindings → (A → Course) → Course) → Type 0
-Checks {A} IsBound (Ok found) check = (bindings : Bindings) (go : A → Course) → IsBound bindings → check bindings go ≡ go found
+Checks {A} IsBound (Ok found) check =
+    (bindings : Bindings) (go : A → Course) → IsBound bindings → check bindings go ≡ go found
 Checks {A} IsBound (Err (Said outcome)) check =
     (bindings : Bindings) (go : A → Course) → IsBound bindings → check bindings go ≡ said outcome bindings
 Checks {A} IsBound (Err NoMemory) check = ⊤
@@ -68,7 +72,8 @@ Checks {A} IsBound (Err NoMemory) check = ⊤
 abbrev pub Starts : List ℕ → (Bindings → Type 0) → Result Asking Halt → (Bindings → Course) → Type 0
 Starts fed IsBound (Ok asking) course =
     (bindings : Bindings) → IsBound bindings → course bindings ≡ ask asking.call (after fed bindings asking.stage)
-Starts fed IsBound (Err (Said outcome)) course = (bindings : Bindings) → IsBound bindings → course bindings ≡ said outcome bindings
+Starts fed IsBound (Err (Said outcome)) course =
+    (bindings : Bindings) → IsBound bindings → course bindings ≡ said outcome bindings
 Starts fed IsBound (Err NoMemory) course = ⊤
 
 -- what is kept now stands for what is bound, and the course is the one that is meant there
@@ -83,7 +88,8 @@ course_in command bindings = course_of (content_by []) bindings command
 
 -- an operation begins by this call, or is refused
 abbrev pub Begins : Method → Option Method → Params → Result Call BeginRefused → Type 0
-Begins used inner params (Ok call) = (refused : BeginRefused → Course) (made : Reply → Course) → begun used inner params refused made ≡ ask call made
+Begins used inner params (Ok call) =
+    (refused : BeginRefused → Course) (made : Reply → Course) → begun used inner params refused made ≡ ask call made
 Begins used inner params (Err refusal) =
     (refused : BeginRefused → Course) (made : Reply → Course) → begun used inner params refused made ≡ refused refusal
 
@@ -91,7 +97,8 @@ Begins used inner params (Err refusal) =
 abbrev pub opening_with : Code → Option Code → Params → ℕ → Operating
 opening_with code inner params n = record { token = n; code = code; inner = inner; params = params; fed = [] }
 
--- whatever was bound by what was kept, a command that makes no further call ends with this, and what is kept now stands for what is bound then
+-- whatever was bound by what was kept, a command that makes no further call ends with this, and what is kept now stands
+-- for what is bound then
 abbrev pub Settles : Names → Names → Outcome → (Bindings → Course) → Type 0
 Settles old new outcome course = (bindings : Bindings) → Agree old bindings
     → (later : Bindings) × Agree new later × (course bindings ≡ said outcome later)

@@ -87,5 +87,6 @@ stopped view = record view { refused = true }
 -- one more call gives back, the next one; or all of them were made
 abbrev pub Gives : ScriptCallerView → Option Call → ScriptCallerView → Type 0
 Gives old (Some call) new =
-    (new ≡ record old { given = old.given ++ call ∷ [] }) × ((more : List Call) × (old.given ++ call ∷ more ≡ back_of old))
+    (new ≡ record old { given = old.given ++ call ∷ [] })
+    × ((more : List Call) × (old.given ++ call ∷ more ≡ back_of old))
 Gives old None new = (new ≡ old) × (old.given ≡ back_of old)

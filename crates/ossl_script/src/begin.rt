@@ -14,7 +14,7 @@ use crate::checks::{
 };
 use crate::options::Options;
 use crate::outcome::Outcome;
-use crate::stage::{Asking, Request, Stage};
+use crate::stage::{Asked, Asking, KeptParams, Request, Stage};
 use ossl_base::text::{Bytes, Text};
 use ossl_codes::{Code, Operation};
 use ossl_commands::Argument;
@@ -82,7 +82,8 @@ pub fn fetch(
     name: &Text,
     query: &Text,
 ) -> Result<Asking, Halt>
-    ensures { Starts [] (Agree names.now) result (course_in (TheCommand.Fetch lib operation algorithm.now name.now query.now)) }
+    ensures { Starts [] (Agree names.now) result
+        (course_in (TheCommand.Fetch lib operation algorithm.now name.now query.now)) }
 {
     let query = read_query(alloc, query.as_slice())?;
     must_be_free(alloc, names, name)?;
@@ -211,7 +212,7 @@ pub fn open(
                 name,
                 code: used.code,
                 inner: code_of(inner),
-                params: options.params,
+                params: KeptParams::of(alloc, options.params)?,
             },
         }),
         Err(refusal) => Err(Halt::Said(Outcome::NotBegun { refusal })),
@@ -228,21 +229,22 @@ pub fn perform(
     query: &Text,
 ) -> Result<Asking, Halt>
     ensures { Starts (fed_by (content_by contents.now) arguments.now) (λ bindings. ⊤) result
-        (λ bindings. course_of (content_by contents.now) bindings (TheCommand.Perform operation algorithm.now arguments.now query.now)) }
+        (λ bindings. course_of (content_by contents.now) bindings
+        (TheCommand.Perform operation algorithm.now arguments.now query.now)) }
 {
     let query = read_query(alloc, query.as_slice())?;
     let options = Options::of(alloc, arguments, contents)?;
     let asked = query.copy(alloc)?;
     let algorithm = algorithm.copy(alloc)?;
+    let lib = options.lib;
+    let request = Request::of(alloc, Asked { options, query })?;
     Ok(Asking {
         call: Call::Fetch {
-            lib: options.lib,
+            lib,
             op: operation,
             name: algorithm,
             query: asked,
         },
-        stage: Stage::Method {
-            request: Request { options, query },
-        },
+        stage: Stage::Method { request },
     })
 }

@@ -61,7 +61,8 @@ pub fn begin(
     command: &Command,
 ) -> Result<Course, AllocError>
     ensures { IfOk result (λ course. (bindings : Bindings) → Agree names.old bindings
-        → Leads (fed_by (content_by contents.now) (arguments_in command.now)) names.new course (course_of (content_by contents.now) bindings command.now)) }
+        → Leads (fed_by (content_by contents.now) (arguments_in command.now)) names.new course
+        (course_of (content_by contents.now) bindings command.now)) }
 {
     match command {
         Command::Load {

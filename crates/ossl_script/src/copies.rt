@@ -42,7 +42,7 @@ fn copy_argument(alloc: Global, argument: &Argument) -> Result<Argument, AllocEr
 fn copy_arguments(alloc: Global, arguments: &Arguments) -> Result<Arguments, AllocError>
     ensures { IfOk result (λ copy. copy ≡ arguments.now) }
 {
-    let mut copies = Vec::new(alloc);
+    let mut copies = Vec::with_capacity(alloc, arguments.as_slice().len())?;
     for argument in arguments.as_slice() {
         copies.push(copy_argument(alloc, argument)?)?;
     }

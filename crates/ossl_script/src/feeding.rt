@@ -41,7 +41,8 @@ fn feed_data(
     piece: &Data,
     contents: &[Bytes],
 ) -> Result<(), AllocError>
-    ensures { OnOk result (Fed context.old context.new (data_bytes (content_by contents.now) piece.now) given.old.items given.new.items) }
+    ensures { OnOk result (Fed context.old context.new (data_bytes (content_by contents.now) piece.now) given.old.items
+        given.new.items) }
 {
     match piece {
         Data::Bytes(bytes) => context.feed(bytes.as_slice(), given),
@@ -60,7 +61,8 @@ pub fn feed_all(
     arguments: &[Argument],
     contents: &[Bytes],
 ) -> Result<(), AllocError>
-    ensures { OnOk result (Fed context.old context.new (fed_by (content_by contents.now) arguments.now) given.old.items given.new.items) }
+    ensures { OnOk result (Fed context.old context.new (fed_by (content_by contents.now) arguments.now) given.old.items
+        given.new.items) }
 {
     for argument in arguments {
         if let Argument::Piece(piece) = argument {
@@ -93,7 +95,8 @@ pub fn perform(
     arguments: &[Argument],
     contents: &[Bytes],
 ) -> Result<Result<Bytes, FinishRefused>, AllocError>
-    ensures { IfOk result (λ bytes. standard_result code inner params.now (fed_by (content_by contents.now) arguments.now) ≡ bytes) }
+    ensures { IfOk result (λ bytes. standard_result code inner params.now
+        (fed_by (content_by contents.now) arguments.now) ≡ bytes) }
 {
     let Ok(mut context) = OpCtx::begin(alloc, code, inner, params) else {
         return Err(AllocError);

@@ -27,6 +27,3 @@ pub use held::{Held, TokenKind};
 pub use ossl_commands::{Argument, Arguments, Command, Data, Limit, Line, LineKind, ScriptRefused};
 pub use outcome::Outcome;
 pub use script_caller::ScriptCaller;
-
-#[cfg(test)]
-mod tests;

@@ -1,7 +1,8 @@
 //! What comes of a command, and how it is printed.
 
 ghost use Rattle.std.specs.Prelude.{◌≡◌, ◌++◌, OnOk, OnErr};
-ghost use Rattle.ossl_script.specs.Outcome.{begin_text, bytes_text, finish_text, outcome_of, outcome_text, parameter_text};
+ghost use Rattle.ossl_script.specs.Outcome.{begin_text, bytes_text, finish_text, outcome_of, outcome_text};
+ghost use Rattle.ossl_script.specs.Outcome.{parameter_text};
 
 use ossl_base::digits::put_hex;
 use ossl_base::text::{Bytes, Text};
@@ -43,7 +44,8 @@ pub enum Outcome {
 }
 
 impl Outcome {
-    /// What comes of a command by the reply to its call, where the reply brings no more: the reply that refuses, or nothing more.
+    /// What comes of a command by the reply to its call, where the reply brings no more: the reply that refuses, or
+    /// nothing more.
     pub fn of(reply: Reply) -> Outcome
         ensures outcome { result ≡ outcome_of reply }
     {
@@ -54,6 +56,19 @@ impl Outcome {
             | Reply::Unsupported
             | Reply::NotAdmitted => Outcome::Refused { reply },
             _ => Outcome::Done,
+        }
+    }
+
+    /// Room for its text where that is long, and for some of it elsewhere.
+    pub fn room(&self) -> usize {
+        match self {
+            Outcome::Done => 2,
+            Outcome::Fetched { provider } => provider.as_slice().len().saturating_add(3),
+            Outcome::Finished { bytes } => hex_room(bytes).saturating_add(3),
+            Outcome::Performed { provider, bytes } => hex_room(bytes)
+                .saturating_add(provider.as_slice().len())
+                .saturating_add(4),
+            _ => 24,
         }
     }
 
@@ -102,6 +117,11 @@ pub fn put_outcome(alloc: Global, out: &mut Vec<u8>, outcome: &Outcome) -> Resul
             put_finish(alloc, out, *refusal)
         }
     }
+}
+
+// How many digits bytes have in hexadecimal.
+fn hex_room(bytes: &Bytes) -> usize {
+    bytes.as_slice().len().saturating_mul(2)
 }
 
 // Appends a text.

@@ -50,7 +50,7 @@ fn settle(
             Ok(Some(asking.call))
         }
         Course::Said(outcome) => {
-            let mut text = Vec::new(alloc);
+            let mut text = Vec::with_capacity(alloc, outcome.room())?;
             put_outcome(alloc, &mut text, &outcome)?;
             progress.told.push(LineResult {
                 line: number,

@@ -25,7 +25,8 @@ fn loaded(
     name: &Text,
     reply: &Reply,
 ) -> Result<Outcome, AllocError>
-    ensures { IfOk result (λ outcome. Settles names.old names.new outcome (λ bindings. after_load name.now bindings reply.now)) }
+    ensures { IfOk result (λ outcome. Settles names.old names.new outcome
+        (λ bindings. after_load name.now bindings reply.now)) }
 {
     match reply {
         Reply::Loaded {
@@ -47,7 +48,8 @@ fn fetched(
     name: &Text,
     reply: &Reply,
 ) -> Result<Outcome, AllocError>
-    ensures { IfOk result (λ outcome. Settles names.old names.new outcome (λ bindings. after_fetch name.now bindings reply.now)) }
+    ensures { IfOk result (λ outcome. Settles names.old names.new outcome
+        (λ bindings. after_fetch name.now bindings reply.now)) }
 {
     match reply {
         Reply::Fetched {
@@ -76,7 +78,8 @@ fn doubled(
     code: Code,
     reply: &Reply,
 ) -> Result<Outcome, AllocError>
-    ensures { IfOk result (λ outcome. Settles names.old names.new outcome (λ bindings. after_up_ref name.now code bindings reply.now)) }
+    ensures { IfOk result (λ outcome. Settles names.old names.new outcome
+        (λ bindings. after_up_ref name.now code bindings reply.now)) }
 {
     match reply {
         Reply::Made { number } => {
@@ -128,7 +131,8 @@ fn given_back(
     name: &Text,
     reply: &Reply,
 ) -> Result<Outcome, AllocError>
-    ensures { IfOk result (λ outcome. Settles names.old names.new outcome (λ bindings. after_giving name.now bindings reply.now)) }
+    ensures { IfOk result (λ outcome. Settles names.old names.new outcome
+        (λ bindings. after_giving name.now bindings reply.now)) }
 {
     let _ = unbind(names, name.as_slice());
     Ok(Outcome::of(reply.copy(alloc)?))
@@ -144,7 +148,8 @@ pub fn resume(
     reply: &Reply,
 ) -> Result<Course, AllocError>
     ensures { IfOk result (λ course. (bindings : Bindings) → Agree names.old bindings
-        → Leads (fed_by (content_by contents.now) arguments.now) names.new course (after (fed_by (content_by contents.now) arguments.now) bindings stage reply.now)) }
+        → Leads (fed_by (content_by contents.now) arguments.now) names.new course
+        (after (fed_by (content_by contents.now) arguments.now) bindings stage reply.now)) }
 {
     match stage {
         Stage::Load { name } => Ok(Course::Said(loaded(alloc, names, &name, reply)?)),
@@ -155,7 +160,7 @@ pub fn resume(
             code,
             inner,
             params,
-        } => Ok(Course::Said(opened(alloc, names, &name, code, inner, &params, reply)?)),
+        } => Ok(Course::Said(opened(alloc, names, &name, code, inner, params.params(), reply)?)),
         Stage::GiveBack { name } => Ok(Course::Said(given_back(alloc, names, &name, reply)?)),
         Stage::Unbound => Ok(Course::Said(Outcome::of(reply.copy(alloc)?))),
         Stage::Method { request } => fetched_method(alloc, request, reply),

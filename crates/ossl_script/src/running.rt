@@ -38,7 +38,8 @@ pub fn feed(
     name: &Text,
     arguments: &[Argument],
 ) -> Result<Outcome, Halt>
-    ensures { Tells names.old names.new result (λ bindings. course_of (content_by contents.now) bindings (TheCommand.Feed name.now arguments.now)) }
+    ensures { Tells names.old names.new result
+        (λ bindings. course_of (content_by contents.now) bindings (TheCommand.Feed name.now arguments.now)) }
 {
     let mut running = take_running(alloc, names, name)?;
     feeding::feed_all(

@@ -8,11 +8,19 @@ use ossl_base::text::Bytes;
 use ossl_commands::Line;
 use std::alloc::{AllocError, Global};
 
+/// How many lines a caller has.
+fn count_of(lines: &[Line], caller: u64) -> usize {
+    lines
+        .iter()
+        .filter(|line| u64::from(line.caller) == caller)
+        .count()
+}
+
 /// Copies of a caller's lines.
 pub fn own_lines(alloc: Global, lines: &[Line], caller: u64) -> Result<Vec<Line>, AllocError>
     ensures { IfOk result (λ own. own.items ≡ lines_of caller lines.now) }
 {
-    let mut own = Vec::new(alloc);
+    let mut own = Vec::with_capacity(alloc, count_of(lines, caller))?;
     for line in lines {
         if u64::from(line.caller) == caller {
             own.push(copy_line(alloc, line)?)?;

@@ -5,7 +5,8 @@ ghost use Rattle.ossl_script.specs.Bindings.{Bindings};
 ghost use Rattle.ossl_script.specs.Given.{content_by, fed_by};
 ghost use Rattle.ossl_script.specs.Outcome.{performed_outcome};
 ghost use Rattle.ossl_script.specs.Stages.{meant, tokens_in, whole_of};
-ghost use Rattle.ossl_script.specs.Whole.{after_context, after_fetch, after_inner, freed, on_method, on_methods, tokens_of};
+ghost use Rattle.ossl_script.specs.Whole.{after_context, after_fetch, after_inner, freed, on_method, on_methods};
+ghost use Rattle.ossl_script.specs.Whole.{tokens_of};
 
 use crate::begin::{begun, code_of};
 use crate::bound::Method;
@@ -20,7 +21,8 @@ use std::alloc::{AllocError, Global};
 
 /// Frees the methods one after the other, and then tells what came of the operation.
 pub fn ended(unfreed: Unfreed, outcome: Outcome) -> Course
-    ensures { (fed : List ℕ) (bindings : Bindings) → freed (tokens_in unfreed) outcome bindings ≡ meant fed bindings result }
+    ensures { (fed : List ℕ) (bindings : Bindings)
+        → freed (tokens_in unfreed) outcome bindings ≡ meant fed bindings result }
 {
     match unfreed {
         Unfreed::Nothing => Course::Said(outcome),
@@ -56,9 +58,10 @@ fn unfreed(used: Method, inner: Option<Method>) -> Unfreed
 
 /// All methods are fetched: the operation begins.
 fn on_methods(request: Request, provider: Text, used: Method, inner: Option<Method>) -> Course
-    ensures { (fed : List ℕ) (bindings : Bindings) → on_methods (whole_of fed bindings request) provider used inner ≡ meant fed bindings result }
+    ensures { (fed : List ℕ) (bindings : Bindings)
+        → on_methods (whole_of fed bindings request) provider used inner ≡ meant fed bindings result }
 {
-    match begun(used, inner, &request.options.params) {
+    match begun(used, inner, &request.asked().options.params) {
         Ok(call) => Course::Asks(Asking {
             call,
             stage: Stage::Context {
@@ -80,15 +83,16 @@ fn on_method(
     used: Method,
 ) -> Result<Course, AllocError>
     ensures { IfOk result (λ course. (fed : List ℕ) (bindings : Bindings)
-        → on_method (whole_of fed bindings request) provider used request.options.algorithm ≡ meant fed bindings course) }
+        → on_method (whole_of fed bindings request) provider used request.options.algorithm
+        ≡ meant fed bindings course) }
 {
-    let call = match &request.options.algorithm {
+    let call = match &request.asked().options.algorithm {
         None => return Ok(on_methods(request, provider, used, None)),
         Some((operation, name)) => Call::Fetch {
-            lib: request.options.lib,
+            lib: request.asked().options.lib,
             op: *operation,
             name: name.copy(alloc)?,
-            query: request.query.copy(alloc)?,
+            query: request.asked().query.copy(alloc)?,
         },
     };
     Ok(Course::Asks(Asking {
@@ -103,7 +107,8 @@ fn on_method(
 
 /// Behind the fetch of the method.
 pub fn fetched_method(alloc: Global, request: Request, reply: &Reply) -> Result<Course, AllocError>
-    ensures { IfOk result (λ course. (fed : List ℕ) (bindings : Bindings) → after_fetch (whole_of fed bindings request) reply.now ≡ meant fed bindings course) }
+    ensures { IfOk result (λ course. (fed : List ℕ) (bindings : Bindings)
+        → after_fetch (whole_of fed bindings request) reply.now ≡ meant fed bindings course) }
 {
     match reply {
         Reply::Fetched {
@@ -157,12 +162,13 @@ pub fn made_context(
     reply: &Reply,
 ) -> Result<Course, AllocError>
     ensures { IfOk result (λ course. (bindings : Bindings)
-        → after_context (whole_of (fed_by (content_by contents.now) arguments.now) bindings request) provider used inner reply.now
+        → after_context (whole_of (fed_by (content_by contents.now) arguments.now) bindings request) provider used inner
+        reply.now
         ≡ meant (fed_by (content_by contents.now) arguments.now) bindings course) }
 {
     match reply {
         Reply::Made { number } => {
-            let params = &request.options.params;
+            let params = &request.asked().options.params;
             let bytes = perform(
                 alloc,
                 used.code,

@@ -31,7 +31,8 @@ pub record Candidate : Type 0 where
 
 -- the rows of one active provider that have the operation and the number
 abbrev pub candidates_of : List Born → Operation → ℕ → Active → List Candidate
-candidates_of born op number a = map (λ row. record { active = a; row = row }) (filter (is_wanted op number) (rows_of a.instance born))
+candidates_of born op number a =
+    map (λ row. record { active = a; row = row }) (filter (is_wanted op number) (rows_of a.instance born))
 
 -- those of all active providers: in their order, and by row within a provider; none where the name has no number
 abbrev pub candidates_among : List Born → List Active → Operation → Option ℕ → List Candidate
@@ -65,4 +66,5 @@ best_from best query cs = fold (λ b c. better b (scored query c)) best cs
 -- of the candidates with a score the one with the greatest; of these the one whose provider is first in the order, and
 -- of its rows the one with the least index
 abbrev pub best_method : State → ℕ → Operation → List ℕ → List Clause → Option Choice
-best_method s l op name query = option_map (λ b. b.choice) (best_from None (merged_query s l query) (candidates s l op name))
+best_method s l op name query =
+    option_map (λ b. b.choice) (best_from None (merged_query s l query) (candidates s l op name))

@@ -11,8 +11,8 @@ use Rattle.ossl_state.specs.State.{opening_state}
 use Rattle.ossl_state.specs.Step.{after_call, Answers}
 use Rattle.ossl_state.specs.Tokens.{entries_of, owns_named, names_context}
 
--- what never changes in a registry: the facts of its boxes, the number of its library contexts, and the counts of faults
--- that the boxes had at its opening
+-- what never changes in a registry: the facts of its boxes, the number of its library contexts, and the counts of
+-- faults that the boxes had at its opening
 pub record Fixed : Type 0 where
   pub facts : List Facts
   pub contexts : ℕ

@@ -43,7 +43,8 @@ taken_back s m = record s {
   live = take m.live s.live;
 }
 
--- a mark of a library context leads back from one state to another, and from those with more activations there and more elements
+-- a mark of a library context leads back from one state to another, and from those with more activations there and more
+-- elements
 pub record LeadsBack (m : Mark) (l : ℕ) (before s : State) : Type 0 where
   pub lib : m.lib ≡ l
   pub there : l < length s.libs

@@ -8,7 +8,8 @@ use Rattle.ossl_state.specs.History.{Fixed, IsLegal, IsNext}
 -- each entry of a list may come next after those before it
 abbrev pub EachIsNext : Fixed → List (Entry Call Reply) → Type 0
 EachIsNext fixed entries =
-    (before after : List (Entry Call Reply)) (e : Entry Call Reply) → entries ≡ before ++ e ∷ after → IsNext fixed before e
+    (before after : List (Entry Call Reply)) (e : Entry Call Reply) → entries ≡ before ++ e ∷ after
+    → IsNext fixed before e
 
 -- such a list is a legal history, and each legal history is such a list
 abbrev pub LegalIsEachNext : Type 0

@@ -20,7 +20,8 @@ row_at rows i = slice_index_or rows i (record { names = []; definition = []; cod
 
 -- a row is offered with the number of its names and its definition
 abbrev pub offered_row : ℕ → TableRow → List Property → ℕ → Offered
-offered_row i row definition number = record { index = i; op = operation_of row.code; number = number; code = row.code; definition = definition }
+offered_row i row definition number =
+    record { index = i; op = operation_of row.code; number = number; code = row.code; definition = definition }
 
 -- a row that is left out is counted, and its names do not join
 abbrev pub without_row : Offer → Offer

@@ -1,5 +1,6 @@
 -- What holds of the state after every legal history.
-use Rattle.std.specs.Prelude.{ℕ, ◌≡◌, ◌<◌, ◌+◌, Bool, true, false, not, ◌&&◌, nat_eq, nat_lt, IsTrue, List, [], ◌∷◌, ◌++◌, length, map, filter, count_by}
+use Rattle.std.specs.Prelude.{ℕ, ◌≡◌, ◌<◌, ◌+◌, Bool, true, false, not, ◌&&◌, nat_eq, nat_lt, IsTrue, List, [], ◌∷◌}
+use Rattle.std.specs.Prelude.{◌++◌, length, map, filter, count_by}
 use Rattle.std.specs.List.{list_any, list_all}
 use Rattle.ossl_base.specs.declared.entry.Entry.{Entry}
 use Rattle.ossl_provider.specs.Members.{is_distinct}
@@ -106,11 +107,13 @@ pub record IsSound (fixed : Fixed) (s : State) (entries : List (Entry Call Reply
   pub elements : HasSoundElements s.next s.live
   pub activations : HasSoundActivations s.next (lent_after entries)
   -- a token that is owned is live
-  pub owned : (c t : ℕ) (token : Token) → IsTrue (owns (entries_of c entries) t token) → IsTrue (is_live s.live (lent_after entries) c t token)
+  pub owned : (c t : ℕ) (token : Token) → IsTrue (owns (entries_of c entries) t token)
+      → IsTrue (is_live s.live (lent_after entries) c t token)
 
 -- every legal history leaves a sound state
 abbrev pub LegalIsSound : Type 0
-LegalIsSound = (fixed : Fixed) (entries : List (Entry Call Reply)) → IsLegal fixed entries → IsSound fixed (state_after fixed entries) entries
+LegalIsSound = (fixed : Fixed) (entries : List (Entry Call Reply)) → IsLegal fixed entries
+    → IsSound fixed (state_after fixed entries) entries
 
 -- how many library contexts are open
 abbrev pub open_count : List LibCtx → ℕ

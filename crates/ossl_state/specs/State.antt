@@ -1,8 +1,10 @@
 -- What a registry knows (OSSL_LIB_CTX(3), provider(7)), and which instances are up.
 --
 -- The struct `State` of src/state.rt is the definition's state itself: numbers and lists, and nothing that only a body
--- would need. A registry that keeps another representation cites this one. A box is named by its place in the catalogue.
-use Rattle.std.specs.Prelude.{ℕ, ◌-◌, Bool, true, false, ◌||◌, nat_eq, List, [], length, map, filter, count_by, replicate, slice_index_or, slice_set}
+-- would need. A registry that keeps another representation cites this one. A box is named by its place in the
+-- catalogue.
+use Rattle.std.specs.Prelude.{ℕ, ◌-◌, Bool, true, false, ◌||◌, nat_eq, List, [], length, map, filter, count_by}
+use Rattle.std.specs.Prelude.{replicate, slice_index_or, slice_set}
 use Rattle.std.specs.List.{list_any}
 use Rattle.ossl_provider.specs.Members.{is_in}
 use Rattle.ossl_state.specs.declared.state.Active.{Active}

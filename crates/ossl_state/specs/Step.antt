@@ -1,13 +1,17 @@
 -- One step of the registry (provider(7), OSSL_PROVIDER(3)): where a reply may come, and what it leaves.
-use Rattle.std.specs.Prelude.{ℕ, ◌+◌, ◌≡◌, ⊤, Bool, true, false, ◌&&◌, ◌||◌, nat_eq, not, IsTrue, IsFalse, if◌then◌else◌, List, [], ◌∷◌, ◌++◌, find, filter, position, unwrap_or, is_some, is_none, None, Some}
+use Rattle.std.specs.Prelude.{ℕ, ◌+◌, ◌≡◌, ⊤, Bool, true, false, ◌&&◌, ◌||◌, nat_eq, not, IsTrue, IsFalse}
+use Rattle.std.specs.Prelude.{if◌then◌else◌, List, [], ◌∷◌, ◌++◌, find, filter, position, unwrap_or, is_some, is_none}
+use Rattle.std.specs.Prelude.{None, Some}
 use Rattle.std.specs.List.{list_any}
 use Rattle.std.specs.Option.{option_map}
 use Rattle.std.specs.declared.option.Option.{Option}
 use Rattle.ossl_provider.specs.Sheet.{Facts}
 use Rattle.ossl_state.specs.declared.call.Call.{Call}
-use Rattle.ossl_state.specs.declared.call.Call.TheVariants.{Load, Unload, SetDefault, Fetch, UpRef, Free, NewCtx, FreeCtx, CloseLib}
+use Rattle.ossl_state.specs.declared.call.Call.TheVariants.{Load, Unload, SetDefault, Fetch, UpRef, Free, NewCtx}
+use Rattle.ossl_state.specs.declared.call.Call.TheVariants.{FreeCtx, CloseLib}
 use Rattle.ossl_state.specs.declared.call.Reply.{Reply}
-use Rattle.ossl_state.specs.declared.call.Reply.TheVariants.{Loaded, Fetched, Made, Done, NoLib, NoProvider, StartRefused, Unsupported, NotAdmitted}
+use Rattle.ossl_state.specs.declared.call.Reply.TheVariants.{Loaded, Fetched, Made, Done, NoLib, NoProvider}
+use Rattle.ossl_state.specs.declared.call.Reply.TheVariants.{StartRefused, Unsupported, NotAdmitted}
 use Rattle.ossl_state.specs.declared.state.Active.{Active}
 use Rattle.ossl_state.specs.declared.state.Born.{Born}
 use Rattle.ossl_state.specs.declared.state.Choice.{Choice}
@@ -30,7 +34,8 @@ use Rattle.ossl_state.specs.State.{lib_at, with_lib, is_active_box, is_held, up_
 
 -- the instance of a box that was started in a library context and that a live element still holds
 abbrev pub held_instance : State → ℕ → ℕ → Option ℕ
-held_instance s l k = option_map (λ b. b.number) (find (λ b. nat_eq b.lib l && nat_eq b.place k && is_held b.number s.live) s.born)
+held_instance s l k = option_map (λ b. b.number)
+    (find (λ b. nat_eq b.lib l && nat_eq b.place k && is_held b.number s.live) s.born)
 
 -- an activation of a box starts it: it is not active in the library context, and no instance of it is held there
 abbrev pub needs_birth : State → ℕ → ℕ → Bool
@@ -49,7 +54,9 @@ offer_of facts s l k = offered (lib_at s l).groups (facts_at facts k).rows
 
 -- the instance that a start makes: its number is that of the entry, and its rows are fixed at its start
 abbrev pub new_instance : List Facts → State → ℕ → ℕ → Born
-new_instance facts s l k = let offer = offer_of facts s l k in record { number = s.next; lib = l; place = k; rows = offer.rows; skipped = offer.skipped }
+new_instance facts s l k =
+    let offer = offer_of facts s l k in
+    record { number = s.next; lib = l; place = k; rows = offer.rows; skipped = offer.skipped }
 
 -- the names of its rows join the groups of the library context
 abbrev pub grouped_of : LibCtx → Groups → LibCtx
@@ -63,11 +70,13 @@ with_born s b = record s { born = s.born ++ b ∷ [] }
 
 abbrev pub with_instance : List Facts → State → ℕ → ℕ → Option ℕ → State
 with_instance facts s l k (Some n) = with_active s l k n
-with_instance facts s l k None = with_active (with_born (with_groups s l (offer_of facts s l k).groups) (new_instance facts s l k)) l k s.next
+with_instance facts s l k None =
+    with_active (with_born (with_groups s l (offer_of facts s l k).groups) (new_instance facts s l k)) l k s.next
 
 -- nothing where the box is active there already; else its held instance goes on, or a new one is born
 abbrev pub after_activation : List Facts → State → ℕ → ℕ → State
-after_activation facts s l k = if is_active_box k (lib_at s l).order then s else with_instance facts s l k (held_instance s l k)
+after_activation facts s l k =
+    if is_active_box k (lib_at s l).order then s else with_instance facts s l k (held_instance s l k)
 
 -- 2. A fetch falls back to the provider `default`.
 
@@ -90,7 +99,8 @@ abbrev pub after_fallback_to : List Facts → State → ℕ → Option ℕ → S
 after_fallback_to facts s l None = s
 after_fallback_to facts s l (Some k) = with_fallback_used (after_activation facts s l k) l
 
--- the state in which a fetch looks: as it was where it does not fall back; else that box is active, and the fallback used
+-- the state in which a fetch looks: as it was where it does not fall back; else that box is active, and the fallback
+-- used
 abbrev pub after_fallback : List Facts → State → ℕ → State
 after_fallback facts s l = after_fallback_to facts s l (fallback_of facts (lib_at s l))
 
@@ -135,7 +145,8 @@ instance_in order k = unwrap_or (option_map (λ a. a.instance) (find (λ a. nat_
 abbrev pub skipped_of : List Born → ℕ → ℕ
 skipped_of born n = unwrap_or (option_map (λ b. b.skipped) (find (λ b. nat_eq b.number n) born)) 0
 
--- what a load answers once the box at a place is active: its token, the box's instance in the order, and its rows that were left out
+-- what a load answers once the box at a place is active: its token, the box's instance in the order, and its rows that
+-- were left out
 abbrev pub loaded_reply : State → ℕ → ℕ → ℕ → Reply
 loaded_reply active n l k = let i = instance_in (lib_at active l).order k in Loaded n i (skipped_of active.born i)
 
@@ -207,7 +218,15 @@ without_element s t = record s { live = filter (λ x. not (is_named t x)) s.live
 
 -- a method holds the instance whose row was chosen
 abbrev pub new_method : ℕ → ℕ → Choice → Live
-new_method n c chosen = record { number = n; owner = c; kind = Method; held = chosen.instance ∷ []; place = chosen.place; row = chosen.row; code = chosen.code }
+new_method n c chosen = record {
+  number = n;
+  owner = c;
+  kind = Method;
+  held = chosen.instance ∷ [];
+  place = chosen.place;
+  row = chosen.row;
+  code = chosen.code;
+}
 
 -- None never comes where a fetch is answered
 abbrev pub with_method : State → ℕ → Option Choice → State
@@ -232,9 +251,19 @@ abbrev pub with_second : State → ℕ → Option Live → State
 with_second s c None = s
 with_second s c (Some x) = with_element s (second_method s.next c x)
 
--- an operation context has the method's provider, row and code, and holds the instances of the method and of the inner one
+-- an operation context has the method's provider, row and code, and holds the instances of the method and of the inner
+-- one
 abbrev pub new_context : State → ℕ → Option ℕ → Live → Live
-new_context s c inner m = record { number = s.next; owner = c; kind = Context; held = m.held ++ held_by_inner s inner; place = m.place; row = m.row; code = m.code }
+new_context s c inner m =
+    record {
+      number = s.next;
+      owner = c;
+      kind = Context;
+      held = m.held ++ held_by_inner s inner;
+      place = m.place;
+      row = m.row;
+      code = m.code;
+    }
 
 -- None never comes in a legal history
 abbrev pub with_context : State → ℕ → Option ℕ → Option Live → State
@@ -249,7 +278,8 @@ admits facts len (Some m) = (facts_at facts m.place).admits m.code len
 -- the operation context that a call makes: none where the method is not there, or its box does not admit it
 abbrev pub context_made : List Facts → State → ℕ → Option ℕ → ℕ → Option Live → Option Live
 context_made facts s c inner len None = None
-context_made facts s c inner len (Some m) = if (facts_at facts m.place).admits m.code len then Some (new_context s c inner m) else None
+context_made facts s c inner len (Some m) =
+    if (facts_at facts m.place).admits m.code len then Some (new_context s c inner m) else None
 
 -- 5. A library context closes.
 
@@ -278,17 +308,21 @@ fetched_of facts n (Some chosen) = Fetched n (facts_at facts chosen.place).name 
 abbrev pub Answers : List Facts → State → ℕ → Call → Reply → Type 0
 Answers facts s c (Load l name retain) NoLib = IsFalse (lib_at s l).is_open
 Answers facts s c (Load l name retain) NoProvider = IsTrue (lib_at s l).is_open × (place_of name facts ≡ None)
-Answers facts s c (Load l name retain) (StartRefused p) = IsTrue (lib_at s l).is_open × (p ≡ name) × MayRefuse s l (place_of name facts)
-Answers facts s c (Load l name retain) (Loaded n i skipped) = IsTrue (lib_at s l).is_open × IsLoaded facts s l (Loaded n i skipped) (place_of name facts)
+Answers facts s c (Load l name retain) (StartRefused p) =
+    IsTrue (lib_at s l).is_open × (p ≡ name) × MayRefuse s l (place_of name facts)
+Answers facts s c (Load l name retain) (Loaded n i skipped) =
+    IsTrue (lib_at s l).is_open × IsLoaded facts s l (Loaded n i skipped) (place_of name facts)
 Answers facts s c (Unload t) NoLib = holder_of s t ≡ None
 Answers facts s c (Unload t) Done = IsTrue (is_some (holder_of s t))
 Answers facts s c (SetDefault l query) NoLib = IsFalse (lib_at s l).is_open
 Answers facts s c (SetDefault l query) Done = IsTrue (lib_at s l).is_open
 Answers facts s c (Fetch l op name query) NoLib = IsFalse (lib_at s l).is_open
 Answers facts s c (Fetch l op name query) (StartRefused p) =
-    IsTrue (lib_at s l).is_open × IsTrue (is_armed (lib_at s l).fallback) × (p ≡ default_name) × MayRefuse s l (place_of default_name facts)
+    IsTrue (lib_at s l).is_open × IsTrue (is_armed (lib_at s l).fallback) × (p ≡ default_name)
+    × MayRefuse s l (place_of default_name facts)
 Answers facts s c (Fetch l op name query) (Fetched n p i r code) =
-    IsTrue (lib_at s l).is_open × (Fetched n p i r code ≡ fetched_of facts s.next (best_method (after_fallback facts s l) l op name query))
+    IsTrue (lib_at s l).is_open
+    × (Fetched n p i r code ≡ fetched_of facts s.next (best_method (after_fallback facts s l) l op name query))
 Answers facts s c (Fetch l op name query) Unsupported =
     IsTrue (lib_at s l).is_open × (best_method (after_fallback facts s l) l op name query ≡ None)
 Answers facts s c (UpRef h) (Made n) = n ≡ s.next
@@ -313,7 +347,8 @@ left_by facts s c (SetDefault l query) NoLib = s
 left_by facts s c (SetDefault l query) Done = with_default s l query
 left_by facts s c (Fetch l op name query) NoLib = s
 left_by facts s c (Fetch l op name query) (StartRefused p) = s
-left_by facts s c (Fetch l op name query) (Fetched n p i r code) = let f = after_fallback facts s l in with_method f c (best_method f l op name query)
+left_by facts s c (Fetch l op name query) (Fetched n p i r code) =
+    let f = after_fallback facts s l in with_method f c (best_method f l op name query)
 left_by facts s c (Fetch l op name query) Unsupported = after_fallback facts s l
 left_by facts s c (UpRef h) (Made n) = with_second s c (element_of s h)
 left_by facts s c (Free h) Done = without_element s h

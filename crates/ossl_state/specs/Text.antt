@@ -6,9 +6,11 @@ use Rattle.ossl_base.specs.declared.entry.Entry.{Entry}
 use Rattle.ossl_codes.specs.declared.code.Operation.{Operation}
 use Rattle.ossl_codes.specs.declared.code.Operation.TheVariants.{Digest, Cipher, Mac, Kdf}
 use Rattle.ossl_state.specs.declared.call.Call.{Call}
-use Rattle.ossl_state.specs.declared.call.Call.TheVariants.{Load, Unload, SetDefault, Fetch, UpRef, Free, NewCtx, FreeCtx, CloseLib}
+use Rattle.ossl_state.specs.declared.call.Call.TheVariants.{Load, Unload, SetDefault, Fetch, UpRef, Free, NewCtx}
+use Rattle.ossl_state.specs.declared.call.Call.TheVariants.{FreeCtx, CloseLib}
 use Rattle.ossl_state.specs.declared.call.Reply.{Reply}
-use Rattle.ossl_state.specs.declared.call.Reply.TheVariants.{Loaded, Fetched, Made, Done, NoLib, NoProvider, StartRefused, Unsupported, NotAdmitted}
+use Rattle.ossl_state.specs.declared.call.Reply.TheVariants.{Loaded, Fetched, Made, Done, NoLib, NoProvider}
+use Rattle.ossl_state.specs.declared.call.Reply.TheVariants.{StartRefused, Unsupported, NotAdmitted}
 use Rattle.ossl_property.specs.Printed.{printed_query}
 
 abbrev pub operation_text : Operation → List ℕ
@@ -32,10 +34,12 @@ call_text (Load l name retain) = codes "load " ++ decimal l ++ codes " " ++ name
 call_text (Unload t) = codes "unload " ++ decimal t
 call_text (SetDefault l query) = codes "default " ++ decimal l ++ codes " [" ++ printed_query query ++ codes "]"
 call_text (Fetch l op name query) =
-    codes "fetch " ++ decimal l ++ codes " " ++ operation_text op ++ codes " " ++ name ++ codes " [" ++ printed_query query ++ codes "]"
+    codes "fetch " ++ decimal l ++ codes " " ++ operation_text op ++ codes " " ++ name
+    ++ codes " [" ++ printed_query query ++ codes "]"
 call_text (UpRef h) = codes "upref " ++ decimal h
 call_text (Free h) = codes "free " ++ decimal h
-call_text (NewCtx h inner len) = codes "newctx " ++ decimal h ++ codes " " ++ inner_text inner ++ codes " " ++ decimal len
+call_text (NewCtx h inner len) =
+    codes "newctx " ++ decimal h ++ codes " " ++ inner_text inner ++ codes " " ++ decimal len
 call_text (FreeCtx h) = codes "freectx " ++ decimal h
 call_text (CloseLib l) = codes "closelib " ++ decimal l
 

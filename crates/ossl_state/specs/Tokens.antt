@@ -1,10 +1,12 @@
 -- Which tokens a caller owns, and which calls it may make. Both follow from the caller's own entries and the number of
 -- library contexts alone.
-use Rattle.std.specs.Prelude.{ℕ, Bool, true, false, ◌&&◌, nat_eq, nat_lt, if◌then◌else◌, List, [], ◌∷◌, filter, None, Some}
+use Rattle.std.specs.Prelude.{ℕ, Bool, true, false, ◌&&◌, nat_eq, nat_lt, if◌then◌else◌, List, [], ◌∷◌, filter, None}
+use Rattle.std.specs.Prelude.{Some}
 use Rattle.std.specs.declared.option.Option.{Option}
 use Rattle.ossl_base.specs.declared.entry.Entry.{Entry}
 use Rattle.ossl_state.specs.declared.call.Call.{Call}
-use Rattle.ossl_state.specs.declared.call.Call.TheVariants.{Load, Unload, SetDefault, Fetch, UpRef, Free, NewCtx, FreeCtx, CloseLib}
+use Rattle.ossl_state.specs.declared.call.Call.TheVariants.{Load, Unload, SetDefault, Fetch, UpRef, Free, NewCtx}
+use Rattle.ossl_state.specs.declared.call.Call.TheVariants.{FreeCtx, CloseLib}
 use Rattle.ossl_state.specs.declared.call.Reply.{Reply}
 use Rattle.ossl_state.specs.declared.call.Reply.TheVariants.{Loaded, Fetched, Made}
 

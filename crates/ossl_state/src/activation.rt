@@ -4,7 +4,8 @@ ghost use Rattle.ossl_state.specs.Boxes.{place_of};
 ghost use Rattle.ossl_state.specs.Rows.{offered};
 ghost use Rattle.ossl_state.specs.Mark.{LeadsBack, with_started};
 ghost use Rattle.ossl_state.specs.State.{is_active_box, lib_at, no_lib};
-ghost use Rattle.ossl_state.specs.Step.{after_activation, fallback_of, grouped_of, held_instance, is_armed, joined_of, needs_birth, used_of, with_fallback_used};
+ghost use Rattle.ossl_state.specs.Step.{after_activation, fallback_of, grouped_of, held_instance, is_armed, joined_of};
+ghost use Rattle.ossl_state.specs.Step.{needs_birth, used_of, with_fallback_used};
 
 use crate::items::Items;
 use crate::lookup::{copy_groups, is_held_instance, order_of};
@@ -86,8 +87,8 @@ pub fn find_fallback<P: Provider>(boxes: &[P], libs: &[LibCtx], lib: u64) -> Opt
     }
 }
 
-/// The instance that a start of a provider makes where these are the groups of names, and the groups once the names of its
-/// rows have joined.
+/// The instance that a start of a provider makes where these are the groups of names, and the groups once the names of
+/// its rows have joined.
 fn new_instance<P: Provider>(
     alloc: Global,
     provider: &P,
@@ -114,7 +115,8 @@ fn new_instance<P: Provider>(
 /// Puts a provider and its instance at the end of a library context's order.
 fn join(libs: &mut Items<LibCtx>, lib: usize, place: usize, instance: u64) -> Result<(), AllocError>
     requires { lib < length libs.old }
-    ensures ok { OnOk result (libs.new ≡ slice_set libs.old lib (joined_of (slice_index_or libs.old lib no_lib) place instance)) }
+    ensures ok { OnOk result
+        (libs.new ≡ slice_set libs.old lib (joined_of (slice_index_or libs.old lib no_lib) place instance)) }
     ensures err { OnErr result (libs.new ≡ libs.old) }
 {
     libs.at_mut(lib).order.push(Active { place, instance })
@@ -137,7 +139,8 @@ pub fn use_fallback(libs: &mut Items<LibCtx>, lib: usize)
     libs.at_mut(lib).fallback = Fallback::Used;
 }
 
-/// Puts an instance that is started into a state, with the groups of names that it leaves, and hands out the groups that were there.
+/// Puts an instance that is started into a state, with the groups of names that it leaves, and hands out the groups
+/// that were there.
 fn bear(state: &mut State, instance: Born, groups: NameMap) -> Result<NameMap, AllocError>
     requires { instance.lib < length state.old.libs }
     ensures ok { OnOk result (state.new ≡ with_started state.old instance groups) }
@@ -206,7 +209,8 @@ pub fn fall_back<P: Provider>(
 ) -> Result<Mark, AllocError>
     requires lib { lib < length state.old.libs }
     requires place { place < length boxes.now }
-    ensures ok { OnOk result (state.new ≡ with_fallback_used (after_activation (map P.facts boxes.now) state.old lib place) lib) }
+    ensures ok { OnOk result
+        (state.new ≡ with_fallback_used (after_activation (map P.facts boxes.now) state.old lib place) lib) }
     ensures mark { IfOk result (λ mark. LeadsBack mark lib state.old state.new) }
     ensures err { OnErr result (state.new ≡ state.old) }
 {

@@ -92,7 +92,8 @@ fn best_among<L: Ledger>(
     query: &Query,
     steps: &mut Steps<L>,
 ) -> Option<Choice>
-    ensures { result ≡ option_map (λ b. b.choice) (best_from None query.now (candidates_among born.now order.now op (Some number))) }
+    ensures { result ≡ option_map (λ b. b.choice)
+        (best_from None query.now (candidates_among born.now order.now op (Some number))) }
 {
     let mut best = None;
     for a in order {

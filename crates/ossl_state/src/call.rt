@@ -9,8 +9,8 @@ use std::alloc::{AllocError, Global};
 /// of the entry that handed it out.
 #[derive(Drop)]
 pub enum Call {
-    /// Loads a provider, and hands out an activation of it (OSSL_PROVIDER(3)). With `retain` the fallback to the provider
-    /// `default` is kept.
+    /// Loads a provider, and hands out an activation of it (OSSL_PROVIDER(3)). With `retain` the fallback to the
+    /// provider `default` is kept.
     Load {
         lib: u64,
         name: Text,
@@ -25,8 +25,8 @@ pub enum Call {
         lib: u64,
         query: Query,
     },
-    /// Looks for the best method of a name (EVP_MD_fetch(3)). While no fetch and no load went before that settles it, the provider
-    /// `default` becomes active first.
+    /// Looks for the best method of a name (EVP_MD_fetch(3)). While no fetch and no load went before that settles it,
+    /// the provider `default` becomes active first.
     Fetch {
         lib: u64,
         op: Operation,
@@ -41,8 +41,8 @@ pub enum Call {
     Free {
         handle: u64,
     },
-    /// Makes an operation context of a method, with the method of an inner algorithm where there is one. `key_len` is the length of
-    /// the key in bytes, 0 without one.
+    /// Makes an operation context of a method, with the method of an inner algorithm where there is one. `key_len` is
+    /// the length of the key in bytes, 0 without one.
     NewCtx {
         handle: u64,
         inner: Option<u64>,
@@ -105,15 +105,15 @@ impl Call {
 /// What the registry answers.
 #[derive(Drop)]
 pub enum Reply {
-    /// An activation, with its token, the instance that it keeps active, and how many rows of that were left out. An instance has
-    /// the number of the entry that started it.
+    /// An activation, with its token, the instance that it keeps active, and how many rows of that were left out. An
+    /// instance has the number of the entry that started it.
     Loaded {
         number: u64,
         instance: u64,
         skipped: u64,
     },
-    /// A method, with its token, and the provider, instance, row and code that it stands for. Rows are counted from 0, those left
-    /// out too.
+    /// A method, with its token, and the provider, instance, row and code that it stands for. Rows are counted from 0,
+    /// those left out too.
     Fetched {
         number: u64,
         provider: Text,

@@ -3,7 +3,8 @@ ghost use Rattle.std.specs.Option.{option_copied, option_map};
 ghost use Rattle.ossl_state.specs.Best.{best_method};
 ghost use Rattle.ossl_state.specs.Boxes.{facts_at};
 ghost use Rattle.ossl_state.specs.Mark.{LeadsBack, fallen_back};
-ghost use Rattle.ossl_state.specs.Step.{context_made, element_of, fetched_of, held_by_inner, is_named, new_method, second_method, with_method};
+ghost use Rattle.ossl_state.specs.Step.{context_made, element_of, fetched_of, held_by_inner, is_named, new_method};
+ghost use Rattle.ossl_state.specs.Step.{second_method, with_method};
 
 use crate::activation::fall_back;
 use crate::best::best;
@@ -91,8 +92,8 @@ fn give_method(
     Ok(())
 }
 
-/// Looks for the best method of a name in a library context, and puts it into the state. What is answered is handed out twice: for
-/// the caller and for its entry.
+/// Looks for the best method of a name in a library context, and puts it into the state. What is answered is handed out
+/// twice: for the caller and for its entry.
 pub fn find_method<P: Provider, L: Ledger>(
     alloc: Global,
     boxes: &[P],
@@ -169,7 +170,8 @@ pub fn second_of(
     caller: u64,
     handle: u64,
 ) -> Result<Option<Live>, AllocError>
-    ensures { IfOk result (λ made. made ≡ option_map (second_method state.now.next caller) (element_of state.now handle)) }
+    ensures { IfOk result (λ made. made
+        ≡ option_map (second_method state.now.next caller) (element_of state.now handle)) }
 {
     let Some(method) = find_element(state.live.as_slice(), handle) else {
         return Ok(None);
@@ -213,7 +215,8 @@ pub fn context_of<P: Provider>(
     inner: Option<u64>,
     key_len: u64,
 ) -> Result<Option<Live>, AllocError>
-    ensures { IfOk result (λ made. made ≡ context_made (map P.facts boxes.now) state.now caller inner key_len (element_of state.now handle)) }
+    ensures { IfOk result (λ made. made
+        ≡ context_made (map P.facts boxes.now) state.now caller inner key_len (element_of state.now handle)) }
 {
     let Some(method) = find_element(state.live.as_slice(), handle) else {
         return Ok(None);

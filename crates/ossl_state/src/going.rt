@@ -50,7 +50,9 @@ fn is_staying(
     kept: Option<usize>,
     instance: u64,
 ) -> bool
-    ensures { result ≡ list_any (λ a. stays_active kept (filter (λ g. not (is_of_token token g)) given.now) a && nat_eq a.instance instance) order.now }
+    ensures { result ≡ list_any
+        (λ a. stays_active kept (filter (λ g. not (is_of_token token g)) given.now) a && nat_eq a.instance instance)
+        order.now }
 {
     order
         .iter()

@@ -2,7 +2,8 @@ ghost use Rattle.std.specs.Prelude.{◌≡◌, ◌<◌, length, map, position, s
 ghost use Rattle.std.specs.List.{list_any};
 ghost use Rattle.ossl_state.specs.Mark.{LeadsBack};
 ghost use Rattle.ossl_state.specs.State.{no_lib};
-ghost use Rattle.ossl_state.specs.Step.{after_load_of, fallback_after_load, instance_in, is_of_token, is_used, kept_of, loaded_of, loaded_reply, skipped_of};
+ghost use Rattle.ossl_state.specs.Step.{after_load_of, fallback_after_load, instance_in, is_of_token, is_used, kept_of};
+ghost use Rattle.ossl_state.specs.Step.{loaded_of, loaded_reply, skipped_of};
 
 use crate::activation::{activate, fallback_at, find_box};
 use crate::call::Reply;
@@ -31,7 +32,8 @@ fn give_activation(
     given: Given,
 ) -> Result<(), AllocError>
     requires { lib < length libs.old }
-    ensures ok { OnOk result (libs.new ≡ slice_set libs.old lib (loaded_of retain given (slice_index_or libs.old lib no_lib))) }
+    ensures ok { OnOk result
+        (libs.new ≡ slice_set libs.old lib (loaded_of retain given (slice_index_or libs.old lib no_lib))) }
     ensures err { OnErr result (libs.new ≡ libs.old) }
 {
     let context = libs.at_mut(lib);

@@ -4,8 +4,8 @@ ghost use Rattle.ossl_state.specs.Mark.{marked, taken_back};
 use crate::state::{Fallback, State};
 use ossl_names::NameMap;
 
-/// What a state was before an entry was put into it: how long its lists were, and what stood in the library context of the entry.
-/// Groups that are not replaced are none here.
+/// What a state was before an entry was put into it: how long its lists were, and what stood in the library context of
+/// the entry. Groups that are not replaced are none here.
 #[derive(Drop)]
 pub struct Mark {
     pub lib: usize,

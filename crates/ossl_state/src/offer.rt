@@ -9,8 +9,8 @@ use ossl_property::{Definition, TextRefused};
 use ossl_provider::provider::Provider;
 use std::alloc::{AllocError, Global};
 
-/// What an instance offers: its rows, how many of the provider's were left out, and the groups of names once those of the
-/// rows have joined.
+/// What an instance offers: its rows, how many of the provider's were left out, and the groups of names once those of
+/// the rows have joined.
 #[derive(Drop)]
 pub struct Offer {
     pub rows: Items<Offered>,
@@ -28,7 +28,8 @@ fn take_defined<P: Provider>(
 ) -> Result<(), AllocError>
     requires in_table { index < length (P.facts provider.now).rows }
     requires few { offer.old.skipped < 2 ^ 64 - 1 }
-    ensures { OnOk result (offer.new ≡ with_defined index (row_at (P.facts provider.now).rows index) (Ok definition) offer.old) }
+    ensures { OnOk result (offer.new
+        ≡ with_defined index (row_at (P.facts provider.now).rows index) (Ok definition) offer.old) }
 {
     match offer.groups.add(provider.row_names(index)) {
         Ok(number) => {

@@ -4,7 +4,7 @@ ghost use Rattle.ossl_property.specs.Printed.{printed_query};
 ghost use Rattle.ossl_state.specs.Text.{call_text, reply_text, entry_text, inner_text, operation_text, retain_text};
 
 use crate::call::{Call, Entry, Reply};
-use ossl_base::digits::put_decimal;
+use itoa::Buffer;
 use ossl_codes::Operation;
 use ossl_property::Query;
 use std::alloc::{AllocError, Global};
@@ -16,10 +16,17 @@ pub fn put_entry(alloc: Global, out: &mut Vec<u8>, entry: &Entry) -> Result<(), 
     ensures err { OnErr result (out.new.items ≡ out.old.items) }
 {
     let mut text = Vec::new(alloc);
-    write_call(alloc, &mut text, &entry.call)?;
-    text.extend_from_slice(b": ")?;
-    write_reply(alloc, &mut text, &entry.reply)?;
+    write_entry(alloc, &mut text, entry)?;
     out.extend_from_slice(text.as_slice())
+}
+
+/// Appends the text of an entry, or a part of it where memory is refused. No copy of it is made.
+pub fn write_entry(alloc: Global, out: &mut Vec<u8>, entry: &Entry) -> Result<(), AllocError>
+    ensures ok { OnOk result (out.new.items ≡ out.old.items ++ entry_text entry.now) }
+{
+    write_call(alloc, out, &entry.call)?;
+    out.extend_from_slice(b": ")?;
+    write_reply(out, &entry.reply)
 }
 
 /// Appends the text of a call.
@@ -38,7 +45,7 @@ pub fn put_reply(alloc: Global, out: &mut Vec<u8>, reply: &Reply) -> Result<(), 
     ensures err { OnErr result (out.new.items ≡ out.old.items) }
 {
     let mut text = Vec::new(alloc);
-    write_reply(alloc, &mut text, reply)?;
+    write_reply(&mut text, reply)?;
     out.extend_from_slice(text.as_slice())
 }
 
@@ -48,16 +55,17 @@ pub fn put_numbered(alloc: Global, out: &mut Vec<u8>, text: &[u8], n: u64) -> Re
     ensures err { OnErr result (out.new.items ≡ out.old.items) }
 {
     let mut line = Vec::new(alloc);
-    write_numbered(alloc, &mut line, text, n)?;
+    write_numbered(&mut line, text, n)?;
     out.extend_from_slice(line.as_slice())
 }
 
 /// Writes a text and a number in decimal digits; these private writers may leave a part where memory is refused.
-fn write_numbered(alloc: Global, out: &mut Vec<u8>, text: &[u8], n: u64) -> Result<(), AllocError>
+fn write_numbered(out: &mut Vec<u8>, text: &[u8], n: u64) -> Result<(), AllocError>
     ensures { OnOk result (out.new.items ≡ out.old.items ++ text.now ++ decimal n) }
 {
     out.extend_from_slice(text)?;
-    put_decimal(alloc, out, n)
+    let mut digits = Buffer::new();
+    out.extend_from_slice(digits.format(n).as_bytes())
 }
 
 fn operation_name(op: Operation) -> &'static [u8]
@@ -84,14 +92,14 @@ fn write_call(alloc: Global, out: &mut Vec<u8>, call: &Call) -> Result<(), Alloc
 {
     match call {
         Call::Load { lib, name, retain } => {
-            write_numbered(alloc, out, b"load ", *lib)?;
+            write_numbered(out, b"load ", *lib)?;
             out.extend_from_slice(b" ")?;
             out.extend_from_slice(name.as_slice())?;
             out.extend_from_slice(retain_word(*retain))
         }
-        Call::Unload { token } => write_numbered(alloc, out, b"unload ", *token),
+        Call::Unload { token } => write_numbered(out, b"unload ", *token),
         Call::SetDefault { lib, query } => {
-            write_numbered(alloc, out, b"default ", *lib)?;
+            write_numbered(out, b"default ", *lib)?;
             write_query(alloc, out, query)
         }
         Call::Fetch {
@@ -100,26 +108,26 @@ fn write_call(alloc: Global, out: &mut Vec<u8>, call: &Call) -> Result<(), Alloc
             name,
             query,
         } => {
-            write_numbered(alloc, out, b"fetch ", *lib)?;
+            write_numbered(out, b"fetch ", *lib)?;
             out.extend_from_slice(b" ")?;
             out.extend_from_slice(operation_name(*op))?;
             out.extend_from_slice(b" ")?;
             out.extend_from_slice(name.as_slice())?;
             write_query(alloc, out, query)
         }
-        Call::UpRef { handle } => write_numbered(alloc, out, b"upref ", *handle),
-        Call::Free { handle } => write_numbered(alloc, out, b"free ", *handle),
+        Call::UpRef { handle } => write_numbered(out, b"upref ", *handle),
+        Call::Free { handle } => write_numbered(out, b"free ", *handle),
         Call::NewCtx {
             handle,
             inner,
             key_len,
         } => {
-            write_numbered(alloc, out, b"newctx ", *handle)?;
-            write_inner(alloc, out, *inner)?;
-            write_numbered(alloc, out, b" ", *key_len)
+            write_numbered(out, b"newctx ", *handle)?;
+            write_inner(out, *inner)?;
+            write_numbered(out, b" ", *key_len)
         }
-        Call::FreeCtx { handle } => write_numbered(alloc, out, b"freectx ", *handle),
-        Call::CloseLib { lib } => write_numbered(alloc, out, b"closelib ", *lib),
+        Call::FreeCtx { handle } => write_numbered(out, b"freectx ", *handle),
+        Call::CloseLib { lib } => write_numbered(out, b"closelib ", *lib),
     }
 }
 
@@ -134,17 +142,17 @@ fn write_query(alloc: Global, out: &mut Vec<u8>, query: &Query) -> Result<(), Al
 }
 
 /// Writes a space and the token of an inner method, or a dash where there is none.
-fn write_inner(alloc: Global, out: &mut Vec<u8>, inner: Option<u64>) -> Result<(), AllocError>
+fn write_inner(out: &mut Vec<u8>, inner: Option<u64>) -> Result<(), AllocError>
     ensures { OnOk result (out.new.items ≡ out.old.items ++ codes " " ++ inner_text inner) }
 {
     match inner {
-        Some(token) => write_numbered(alloc, out, b" ", token),
+        Some(token) => write_numbered(out, b" ", token),
         None => out.extend_from_slice(b" -"),
     }
 }
 
 /// Writes the text of a reply.
-fn write_reply(alloc: Global, out: &mut Vec<u8>, reply: &Reply) -> Result<(), AllocError>
+fn write_reply(out: &mut Vec<u8>, reply: &Reply) -> Result<(), AllocError>
     ensures { OnOk result (out.new.items ≡ out.old.items ++ reply_text reply.now) }
 {
     match reply {
@@ -153,8 +161,8 @@ fn write_reply(alloc: Global, out: &mut Vec<u8>, reply: &Reply) -> Result<(), Al
             instance,
             skipped,
         } => {
-            write_numbered(alloc, out, b"ok ", *instance)?;
-            write_numbered(alloc, out, b" skipped ", *skipped)
+            write_numbered(out, b"ok ", *instance)?;
+            write_numbered(out, b" skipped ", *skipped)
         }
         Reply::Fetched {
             number: _,
@@ -165,8 +173,8 @@ fn write_reply(alloc: Global, out: &mut Vec<u8>, reply: &Reply) -> Result<(), Al
         } => {
             out.extend_from_slice(b"ok ")?;
             out.extend_from_slice(provider.as_slice())?;
-            write_numbered(alloc, out, b" ", *instance)?;
-            write_numbered(alloc, out, b" ", *row)
+            write_numbered(out, b" ", *instance)?;
+            write_numbered(out, b" ", *row)
         }
         Reply::Made { number: _ } | Reply::Done => out.extend_from_slice(b"ok"),
         Reply::NoLib => out.extend_from_slice(b"no context"),

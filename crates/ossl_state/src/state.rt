@@ -41,8 +41,8 @@ pub struct LibCtx {
     pub given: Items<Given>,
 }
 
-/// A row that an instance offers: its index in the provider, from 0, and what a fetch looks at: the operation, the number
-/// of the row's names, and its property definition.
+/// A row that an instance offers: its index in the provider, from 0, and what a fetch looks at: the operation, the
+/// number of the row's names, and its property definition.
 #[derive(Drop)]
 pub struct Offered {
     pub index: u64,

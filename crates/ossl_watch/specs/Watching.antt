@@ -1,5 +1,6 @@
 -- How a watch stands to the state after the history that it was told. Devices of its contracts.
-use Rattle.std.specs.Prelude.{ℕ, ◌+◌, ◌-◌, ◌^◌, ◌≡◌, ◌<◌, Bool, true, false, ◌&&◌, nat_eq, nat_lt, IsTrue, if◌then◌else◌, Option, Some, None, List, [], map, length, find, count_by, slice_index_or}
+use Rattle.std.specs.Prelude.{ℕ, ◌+◌, ◌-◌, ◌^◌, ◌≡◌, ◌<◌, Bool, true, false, ◌&&◌, nat_eq, nat_lt, IsTrue}
+use Rattle.std.specs.Prelude.{if◌then◌else◌, Option, Some, None, List, [], map, length, find, count_by, slice_index_or}
 use Rattle.std.specs.List.{list_all}
 use Rattle.ossl_base.specs.declared.entry.Entry.{Entry}
 use Rattle.ossl_provider.specs.Members.{is_distinct, is_in}

@@ -1,7 +1,8 @@
 //! The instances that are up, with what keeps each of them up.
 
 ghost use Rattle.std.specs.Prelude.{◌≡◌, ◌<◌, ◌-◌, ◌^◌, map, option_to_list, vec_len, vec_capacity, IsTrue, IfOk};
-ghost use Rattle.ossl_watch.specs.Watched.{activated, after_use, are_below, birth, going_by, has_box, is_box_of, is_used, left_after, up_of, with_box};
+ghost use Rattle.ossl_watch.specs.Watched.{activated, after_use, are_below, birth, going_by, has_box, is_box_of};
+ghost use Rattle.ossl_watch.specs.Watched.{is_used, left_after, up_of, with_box};
 
 use crate::token::{Use, holds};
 use crate::up::Up;

@@ -1,9 +1,12 @@
 //! The watch over a history.
 
-ghost use Rattle.std.specs.Prelude.{◌≡◌, ◌<◌, ◌-◌, ◌^◌, [], ◌∷◌, ◌++◌, map, length, option_to_list, vec_len, vec_capacity, IsTrue, IfOk, OnErr, OnOk};
+ghost use Rattle.std.specs.Prelude.{◌≡◌, ◌<◌, ◌-◌, ◌^◌, [], ◌∷◌, ◌++◌, map, length, option_to_list, vec_len};
+ghost use Rattle.std.specs.Prelude.{vec_capacity, IsTrue, IfOk, OnErr, OnOk};
 ghost use Rattle.ossl_state.specs.Boxes.{place_of};
 ghost use Rattle.ossl_state.specs.Tokens.{names_context};
-ghost use Rattle.ossl_watch.specs.Watched.{are_below, birth_of, closed, context_made, fallback_at, fallen, fallen_armed, fallen_running, going_as, going_by, handed, handed_if, loaded, noted_by, method_in, spent, starts_told, stops_told, token_at};
+ghost use Rattle.ossl_watch.specs.Watched.{are_below, birth_of, closed, context_made, fallback_at, fallen};
+ghost use Rattle.ossl_watch.specs.Watched.{fallen_armed, fallen_running, going_as, going_by, handed, handed_if, loaded};
+ghost use Rattle.ossl_watch.specs.Watched.{noted_by, method_in, spent, starts_told, stops_told, token_at};
 
 use crate::running::{Running, activate, change_uses, going, settle};
 use crate::token::{Token, Use, use_ended};

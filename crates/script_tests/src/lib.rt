@@ -4,6 +4,8 @@
 #![tactic(auto)]
 
 #[cfg(test)]
+mod results;
+#[cfg(test)]
 mod scripts;
 #[cfg(test)]
 mod work;

@@ -108,7 +108,8 @@ impl<P: Provider> PlainRegistry<P> {
         requires is { call ≡ Call.Fetch lib op name.now query.now }
         requires allowed { MayCall P.facts self.old caller call }
         requires open { IsTrue (lib_at (state_of P.facts self.old) lib).is_open }
-        requires found { fallback_of (map P.facts self.old.boxes) (lib_at (state_of P.facts self.old) lib) ≡ Some place }
+        requires found { fallback_of (map P.facts self.old.boxes) (lib_at (state_of P.facts self.old) lib)
+            ≡ Some place }
         ensures entry { IfOk result (Appends self.old self.new caller call) }
         ensures fixed { fixed_of P.facts self.new ≡ fixed_of P.facts self.old }
         ensures err { OnErr result (self.new ≡ self.old) }

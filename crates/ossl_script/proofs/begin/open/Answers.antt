@@ -45,8 +45,8 @@ returns-in_err-must_be_free c =
     (passes fed IsBound (Err halt) (uses_inner options.method) (λ bindings other. binds name bindings (opened name options bindings used other)) inner c.in_ok-inner.ensures
     (stops fed IsBound halt (λ bindings go. binds name bindings (go tt)) (λ bindings free. opened name options bindings used inner) c.in_err-must_be_free.ensures))))
 
-pub returns-in-Ok : goal.returns-in-Ok
-returns-in-Ok c = λ bindings agree.
+pub returns-in_ok-of-in-Ok : goal.returns-in_ok-of-in-Ok
+returns-in_ok-of-in-Ok c = λ bindings agree.
     let name = c.args.name.now in
     let options = c.in_ok-options.options in
     let used = c.in_ok-used.used in
@@ -57,7 +57,7 @@ returns-in-Ok c = λ bindings agree.
     ∙ c.in_ok-must_be_free.ensures bindings (λ free. opened name options bindings used inner) agree
     ∙ c.in-Ok.ensures (λ refusal. said (outcomes.NotBegun refusal) bindings)
     (after_open name (opening_with used.code (code_of inner) options.params) bindings)
-    ∙ rw (c.in_ok-name.ensures.equal, c.code_of.ensures) refl
+    ∙ rw (c.name.view_is, c.in_ok-name.ensures.equal, c.code_of.ensures, c.in_ok-of-in-Ok.ensures.params) refl
 
 pub returns-in-Err : goal.returns-in-Err
 returns-in-Err c = λ bindings agree.

@@ -17,7 +17,7 @@ returns-in_ok-push-in-Said c =
     let old : Progress = c.args.progress.now in
     let outcome = c.in-Said.outcome in
     let new : Progress = record { told = c.push.new.self; names = old.names; stage = None; line = old.line + 1 } in
-    let text = c.of.ensures.bytes ∙ c.in_ok-put_outcome-in-Said.ensures ∙ ap (λ (bytes : List ℕ). bytes ++ outcome_text outcome) c.new-text.ensures.items in
+    let text = c.of.ensures.bytes ∙ c.in_ok-put_outcome-in-Said.ensures ∙ ap (λ (bytes : List ℕ). bytes ++ outcome_text outcome) c.in_ok-text-in-Said.ensures.items in
     let tells = λ (bytes : List ℕ). let one : LineResult = record { line = c.args.number; text = bytes } in old.told.items ++ one ∷ [] in
     subst (λ (course : Left). Settled old new c.args.number course None) (sym c.in-Said.is)
     (c.in_ok-push-in-Said.ensures.items ∙ ap tells text, refl, refl, refl)

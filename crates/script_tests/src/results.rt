@@ -1,6 +1,8 @@
-use crate::{Held, Next, Outcome, TokenKind};
+//! What is printed of a line, and what a caller holds.
+
 use ossl_base::text::{Bytes, Text};
 use ossl_op::{BeginRefused, FinishRefused};
+use ossl_script::{Held, Next, Outcome, TokenKind};
 use ossl_state::{Call, Reply};
 use std::test::Fail;
 
