@@ -6,8 +6,6 @@
 pub mod batch;
 mod command;
 pub mod summary;
-#[cfg(test)]
-mod tests;
 
 pub use batch::generate;
 pub use summary::{Summary, is_good, summary_text};

@@ -6,10 +6,6 @@
 mod command;
 pub mod job;
 mod number;
-#[cfg(test)]
-mod rows;
-#[cfg(test)]
-mod tests;
 pub mod words;
 
 pub use job::{Job, Order, WordsRefused};

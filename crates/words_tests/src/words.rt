@@ -1,5 +1,7 @@
+//! Lists of words, and what is answered to them.
+
 use crate::rows::ROWS;
-use crate::{Job, WordsRefused, read_words};
+use ossl_words::{Job, WordsRefused, read_words};
 use std::alloc::{AllocError, Global};
 use std::test::Fail;
 

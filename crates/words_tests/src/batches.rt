@@ -1,4 +1,6 @@
-use crate::{Summary, generate, is_good, summary_text};
+//! Batches that are drawn from a seed, and the summary of one.
+
+use ossl_generate::{Summary, generate, is_good, summary_text};
 use std::test::Fail;
 
 #[test]
