@@ -2,8 +2,8 @@
 # build: the proved programs, each left at bin/NAME
 # test: the gate: every proof, must-fail edit, test and program, and then the cases
 # check CRATE=NAME: one crate, while you write it
-PROGRAMS = ossl_replay ossl_enc ossl_speed
-INSTALLED = ossl_replay ossl_enc
+PROGRAMS = ossl_replay ossl_batch ossl_enc ossl_speed
+INSTALLED = ossl_replay ossl_batch ossl_enc
 PREFIX = /usr/local
 .PHONY: demo build test check install uninstall
 

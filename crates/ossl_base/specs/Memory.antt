@@ -1,5 +1,6 @@
 -- Sources, sinks and files in memory: what contracts see of them, and what a call does.
-use Rattle.std.specs.Prelude.{ℕ, ◌-◌, Bool, ◌&&◌, ◌||◌, cond, nat_eq, nat_lt, min, List, ◌++◌, length, take, drop, is_some, is_none}
+use Rattle.std.specs.Prelude.{ℕ, ◌-◌, Bool, ◌&&◌, ◌||◌, cond, nat_eq, nat_lt, min, List, ◌++◌, length, take, drop}
+use Rattle.std.specs.Prelude.{is_some, is_none}
 use Rattle.ossl_base.specs.Causes.{count_after}
 use Rattle.ossl_base.specs.Files.{Entries, content_of}
 use Rattle.ossl_base.specs.Members.{is_in}
@@ -31,7 +32,8 @@ after_read s n =
     (record s { calls = count_after s.calls; faults = count_after s.faults })
     (record s { calls = count_after s.calls; left = drop (read_count s n) s.left })
 
--- a sink: the bytes taken, the room for them, how many a call takes at most, the calls that are to fail, the calls and faults so far
+-- a sink: the bytes taken, the room for them, how many a call takes at most, the calls that are to fail, the calls and
+-- faults so far
 pub record SinkView : Type 0 where
   pub taken : List ℕ
   pub room : ℕ

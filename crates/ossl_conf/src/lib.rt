@@ -1,8 +1,7 @@
 //! Configuration texts, after config(5): what a text says, which settings it makes, and why it is refused.
 //! Reading answers exactly the settings of the definition, or its refusal with the line, kind, name or place.
 //! config(5) in its form, with rules of this project's own (docs/manual/configuration.md). Work grows with the bytes
-//! read
-//! and with those that variables stand for.
+//! read and with those that variables stand for.
 #![tactic(auto)]
 
 mod counted;

@@ -1,6 +1,5 @@
 //! Reads a configuration on standard input, where one file, `f`, can be included, which is empty, and tells what is
-//! set or
-//! why it is refused: a program for measurements of `read_conf`, with the tests of `ossl_conf`.
+//! set or why it is refused: a program for measurements of `read_conf`, with the tests of `ossl_conf`.
 //! It promises no more than that it ends; what it tells is seen by reading.
 #![tactic(auto)]
 

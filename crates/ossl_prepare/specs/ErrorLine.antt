@@ -12,7 +12,8 @@ use Rattle.ossl_commands.specs.Kind.{kind_word}
 use Rattle.ossl_commands.specs.Limit.{limit_word}
 use Rattle.ossl_commands.specs.declared.limit.Limit.TheVariants as limits
 use Rattle.ossl_prepare.specs.declared.error_line.ErrorLine.{ErrorLine}
-use Rattle.ossl_prepare.specs.declared.error_line.ErrorLine.TheVariants.{Usage, Read, Configuration, Batch, Limit, Provider}
+use Rattle.ossl_prepare.specs.declared.error_line.ErrorLine.TheVariants.{Usage, Read, Configuration, Batch, Limit}
+use Rattle.ossl_prepare.specs.declared.error_line.ErrorLine.TheVariants.{Provider}
 
 abbrev pub error_status : ErrorLine → ℕ
 error_status Usage = 2

@@ -1,7 +1,8 @@
 -- What the words of a top call come to, with what it reads: a batch that is ready to be run, or the first error in
 -- the order of the checks: the words, the reading of the batch and its limit of bytes, and then those of the batch,
 -- its files and its configuration.
-use Rattle.std.specs.Prelude.{ℕ, ◌≡◌, ◌⊎◌, ◌<◌, ◌≤◌, nat_lt, Bool, true, false, IfSome, if◌then◌else◌, Option, Some, None, Result, Ok, Err, List, [], length}
+use Rattle.std.specs.Prelude.{ℕ, ◌≡◌, ◌⊎◌, ◌<◌, ◌≤◌, nat_lt, Bool, true, false, IfSome, if◌then◌else◌, Option, Some}
+use Rattle.std.specs.Prelude.{None, Result, Ok, Err, List, [], length}
 use Rattle.ossl_base.specs.Causes.{Rose}
 use Rattle.ossl_base.specs.Files.{Entries}
 use Rattle.ossl_commands.specs.declared.limit.Limit.TheVariants as limits

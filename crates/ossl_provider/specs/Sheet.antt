@@ -11,13 +11,15 @@ pub record Facts : Type 0 where
   pub rows : List TableRow
   pub admits : Code → ℕ → Bool
 
--- what was done: the instances up in the order of their starts, the number of accepted starts, and the count of faults, which may stand at any number when a provider is made
+-- what was done: the instances up in the order of their starts, the number of accepted starts, and the count of faults,
+-- which may stand at any number when a provider is made
 pub record Sheet : Type 0 where
   pub up : List ℕ
   pub starts : ℕ
   pub faults : ℕ
 
--- what holds of every provider: no instance is up twice, those that are up were started, and the count is a number of 64 bits
+-- what holds of every provider: no instance is up twice, those that are up were started, and the count is a number of
+-- 64 bits
 pub record IsSheet (s : Sheet) : Type 0 where
   pub distinct : IsTrue (is_distinct s.up)
   pub started : length s.up ≤ s.starts

@@ -1,6 +1,8 @@
 //! Providers: what offers rows of algorithms to a library context, and is started and stopped there as instances.
-//! Promise: an accepted start adds its instance, a refused one raises the count of faults, a stop takes its instance out, and nothing else changes.
-//! After OSSL_PROVIDER(3) and provider(7). A stop grows with the instances up, every other call with nothing, and none takes memory.
+//! Promise: an accepted start adds its instance, a refused one raises the count of faults, a stop takes its instance
+//! out, and nothing else changes.
+//! After OSSL_PROVIDER(3) and provider(7). A stop grows with the instances up, every other call with nothing, and none
+//! takes memory.
 #![tactic(auto)]
 
 pub mod boxed;

@@ -1,4 +1,5 @@
-ghost use Rattle.std.specs.Prelude.{◌≡◌, ◌<◌, ◌^◌, ◌+◌, ◌-◌, length, map, slice_get, Some, IsTrue, IsFalse, OnOk, OnErr};
+ghost use Rattle.std.specs.Prelude.{◌≡◌, ◌<◌, ◌^◌, ◌+◌, ◌-◌, length, map, slice_get, Some, IsTrue, IsFalse, OnOk};
+ghost use Rattle.std.specs.Prelude.{OnErr};
 ghost use Rattle.ossl_provider.specs.Members.{is_in};
 ghost use Rattle.ossl_provider.specs.Sheet.{Facts, Sheet, IsSheet, after_start, after_refusal, after_stop, stops_of};
 

@@ -1,6 +1,6 @@
 //! Answers a batch on standard input with the order of its registry calls and the results, on standard output.
-//! It makes the real source and sink, the files of the working folder and the five built-in boxes, calls `replay`, and ends with
-//! its status.
+//! It makes the real source and sink, the files of the working folder and the five built-in boxes, calls `replay`, and
+//! ends with its status.
 //! What it promises is the contract of `replay`; that the streams are the real ones is seen by reading.
 #![tactic(auto)]
 

@@ -1,8 +1,10 @@
 -- The rows of the built-in providers: each algorithm's names, joined by `:`, and its code, in the order of the rows.
--- The names are those of the providers' manual pages, OSSL_PROVIDER-default(7) and its sisters, and of the pages that these list.
+-- The names are those of the providers' manual pages, OSSL_PROVIDER-default(7) and its sisters, and of the pages that
+-- these list.
 use Rattle.std.specs.Prelude.{ℕ, List, [], ◌∷◌, ◌++◌, codes, map}
 use Rattle.ossl_codes.specs.declared.code.Code.{Code}
-use Rattle.ossl_codes.specs.declared.code.Code.TheVariants.{Sha1, Sha224, Sha256, Sha384, Sha512, Sha512t224, Sha512t256, Md5, Md4, Aes, ChaCha20, Rc4, Hmac, Cmac, Hkdf}
+use Rattle.ossl_codes.specs.declared.code.Code.TheVariants.{Sha1, Sha224, Sha256, Sha384, Sha512, Sha512t224}
+use Rattle.ossl_codes.specs.declared.code.Code.TheVariants.{Sha512t256, Md5, Md4, Aes, ChaCha20, Rc4, Hmac, Cmac, Hkdf}
 use Rattle.ossl_codes.specs.declared.code.Bits.TheVariants.{B128, B192, B256}
 use Rattle.ossl_codes.specs.declared.code.AesMode.TheVariants.{Ecb, Cbc, Cfb, Ofb, Ctr}
 use Rattle.ossl_provider.specs.declared.table.TableRow.{TableRow}
@@ -54,7 +56,8 @@ aes =
 abbrev pub chacha : List Named
 chacha = (codes "ChaCha20", ChaCha20) ∷ []
 
--- what runs on a digest or a cipher (EVP_MAC-HMAC(7), EVP_MAC-CMAC(7), EVP_KDF-HKDF(7)): rows 24 to 26 of `default`, 22 to 24 of `fips`
+-- what runs on a digest or a cipher (EVP_MAC-HMAC(7), EVP_MAC-CMAC(7), EVP_KDF-HKDF(7)): rows 24 to 26 of `default`, 22
+-- to 24 of `fips`
 abbrev pub keyed : List Named
 keyed = (codes "HMAC", Hmac) ∷ (codes "CMAC", Cmac) ∷ (codes "HKDF", Hkdf) ∷ []
 
@@ -66,12 +69,14 @@ outdated = (codes "MD4", Md4) ∷ (codes "RC4", Rc4) ∷ []
 abbrev pub rows_of : List ℕ → List Named → List TableRow
 rows_of definition algorithms = map (λ a. record { names = a.0; definition = definition; code = a.1 }) algorithms
 
--- a provider by its name, the property definition of its rows, its least key in bytes and its algorithms, before any start
+-- a provider by its name, the property definition of its rows, its least key in bytes and its algorithms, before any
+-- start
 abbrev pub unstarted : List ℕ → List ℕ → ℕ → List Named → TableView
 unstarted name definition least_key algorithms =
     record { name = name; rows = rows_of definition algorithms; least_key = least_key; up = []; starts = 0 }
 
--- the built-in providers; `fips` wants keys of 14 bytes for HMAC and HKDF, the 112 bits of SP 800-131A; `null` and `base` have no rows, and so no definition
+-- the built-in providers; `fips` wants keys of 14 bytes for HMAC and HKDF, the 112 bits of SP 800-131A; `null` and
+-- `base` have no rows, and so no definition
 abbrev pub table_of : Builtin → TableView
 table_of Default = unstarted (codes "default") (codes "provider=default") 0 (sha ++ md5 ++ aes ++ chacha ++ keyed)
 table_of Legacy = unstarted (codes "legacy") (codes "provider=legacy") 0 outdated
