@@ -1,9 +1,10 @@
--- An order that names each place once: what moving a place to the front keeps, and the place for a new answer.
+-- An order that names each place once: that it names all 64, what moving a place to the front keeps, and the place for a new answer.
 use Rattle.std.proofs.Common.{◌≡◌, ◌≢◌, ◌∙◌, ◌<◌, ◌≤◌, ◌-◌, ℕ, suc, refl, sym, ap, subst, Bool, true, false, not, ◌&&◌, ◌||◌, List, [], ◌∷◌, map, Option, Some, None, is_some, find, length, take, cond, nat_eq, nat_lt, slice_set, arith, true≢false, unwrap_or, get_or-set_other, get_or-set_same}
-use Rattle.std.specs.List.{list_any}
+use Rattle.std.specs.List.{list_any, AllByRecursion, IsDistinct}
 use Rattle.std.specs.Map.{lookup_entry, remove_entry}
-use Rattle.std.proofs.lemmas.List.{take_all}
-use Rattle.std.proofs.lemmas.Bool.{and_parts, eq-eqb, ne_eqb, eqb-true, ltb-true}
+use Rattle.std.proofs.lemmas.List.{take_all, length-map}
+use Rattle.std.proofs.lemmas.Bool.{and_parts, eq-eqb, ne_eqb, eqb-true, ltb-true, lt-ltb}
+use Rattle.std.proofs.lemmas.Map.Steps.{length-le_from_distinct_below}
 use Rattle.lru.specs.LruCache.{promoted}
 use Rattle.ossl_cache.specs.Recent.{Answer, most}
 use Rattle.ossl_cache.specs.Places.{Order, held_at, and_shown, shown, are_places, is_free, last_place, next_place}
@@ -34,6 +35,38 @@ parts_of e es h =
 
 pub are_places-more : (i : ℕ) (es : Order) → nat_lt i most ≡ true → is_named i es ≡ false → are_places es ≡ true → are_places ((i, tt) ∷ es) ≡ true
 are_places-more i es below apart rest = rw (below, apart, rest) refl
+
+-- ---- all of 64 places
+
+others : (i : ℕ) (es : Order) → is_named i es ≡ false → AllByRecursion (λ y. nat_eq i y ≡ false) (map (λ e. e.0) es)
+others i [] h = tt
+others i (e ∷ es) h = let p = or_false (nat_eq i e.0) (is_named i es) h in (p.0, others i es p.1)
+
+distinct : (es : Order) → are_places es ≡ true → IsDistinct nat_eq (map (λ e. e.0) es)
+unfolding IsDistinct
+distinct [] h = tt
+distinct (e ∷ es) h = let p = parts_of e es h in (others e.0 es p.apart, distinct es p.rest)
+
+below : (es : Order) → are_places es ≡ true → (q : ℕ) → list_any (nat_eq q) (map (λ e. e.0) es) ≡ true → q < most
+below [] h q named = absurd (true≢false (sym named))
+below (e ∷ es) h q named =
+    let p = parts_of e es h in
+    (elim (nat_eq q e.0) as (λ b. nat_eq q e.0 ≡ b → (b || list_any (nat_eq q) (map (λ x. x.0) es)) ≡ true → q < most) [
+      | true ↦ λ same _. subst (λ k. k < most) (sym (eqb-true q e.0 same)) (ltb-true e.0 most p.below)
+      | false ↦ λ _ later. below es p.rest q later
+    ]) refl named
+
+-- 64 places that differ are all that there are
+pub all_named : (i : ℕ) (es : Order) → i < most → length es ≡ most → are_places es ≡ true → is_named i es ≡ true
+all_named i es within all h = go (is_named i es) refl
+  where
+    go : (b : Bool) → is_named i es ≡ b → is_named i es ≡ true
+    go true e = e
+    go false e =
+        let more = (i, tt) ∷ es in
+        let places = are_places-more i es (lt-ltb i most within) e h in
+        let few : length (map (λ x. x.0) more) ≤ most = length-le_from_distinct_below (map (λ x. x.0) more) most (distinct more places) (below more places) in
+        absurd (omega (arith, few, all, length-map es (λ x. x.0)))
 
 -- a place that is not named has no entry
 pub entry-unnamed : (i : ℕ) (es : Order) → is_named i es ≡ false → lookup_entry (nat_eq i) es ≡ None

@@ -31,12 +31,6 @@ abbrev pub are_places : Order → Bool
 are_places [] = true
 are_places (e ∷ es) = nat_lt e.0 most && not (list_any (λ other. nat_eq e.0 other.0) es) && are_places es
 
--- 64 places, and an order of all of them
-pub record IsPlaced (slots : List (Option Answer)) (order : Order) : Type 0 where
-  pub room : length slots ≡ most
-  pub all : length order ≡ most
-  pub once : are_places order ≡ true
-
 -- the answer is among those that go
 abbrev pub goes : Going → Answer → Bool
 goes All a = true
@@ -49,6 +43,7 @@ abbrev pub emptied : (Answer → Bool) → Option Answer → Option Answer
 emptied test None = None
 emptied test (Some a) = if test a then None else Some a
 
+-- what a place holds is an answer whose key passes the test
 abbrev pub holds_in : (Key → Bool) → Option Answer → Bool
 holds_in test None = false
 holds_in test (Some a) = test a.0
@@ -56,6 +51,18 @@ holds_in test (Some a) = test a.0
 -- the place holds an answer whose key passes the test
 abbrev pub holds_at : (Key → Bool) → List (Option Answer) → ℕ → Bool
 holds_at test slots place = holds_in test (held_at slots place)
+
+-- no two places hold the same key
+abbrev pub AreApart : List (Option Answer) → Type 0
+AreApart slots = (key : Key) (i j : ℕ)
+    → holds_at (same_key key) slots i ≡ true → holds_at (same_key key) slots j ≡ true → i ≡ j
+
+-- 64 places, each key in one of them at most, and an order of all of them
+pub record IsPlaced (slots : List (Option Answer)) (order : Order) : Type 0 where
+  pub room : length slots ≡ most
+  pub all : length order ≡ most
+  pub once : are_places order ≡ true
+  pub apart : AreApart slots
 
 -- the place holds nothing
 abbrev pub is_free : List (Option Answer) → ℕ → Bool

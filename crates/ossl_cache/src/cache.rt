@@ -54,7 +54,7 @@ impl QueryCache {
         ensures found { result ≡ lookup (same_key key.now) self.old }
         ensures front { self.new ≡ promoted (same_key key.now) self.old }
     {
-        let Some(place) = place_of(self.slots.as_slice(), &self.order, key) else {
+        let Some(place) = place_of(self.slots.as_slice(), key) else {
             return None;
         };
         self.order.promote(&place);
@@ -104,6 +104,7 @@ fn empty_slots(alloc: Global) -> Result<Vec<Slot>, AllocError>
     Ok(slots)
 }
 
+/// An order of all places, the first in front: so the first are filled first, and a scan meets what is held soonest.
 fn all_places(alloc: Global) -> Result<Order, AllocError>
     ensures { IfOk result (λ order. (length order.entries ≡ 64) × (are_places order.entries ≡ true)) }
 {
@@ -111,7 +112,7 @@ fn all_places(alloc: Global) -> Result<Order, AllocError>
         unreachable!()
     };
     let mut order = LruCache::new(alloc, places)?;
-    for place in 0..PLACES {
+    for place in (0..PLACES).rev() {
         order.put(place, ())?;
     }
     Ok(order)

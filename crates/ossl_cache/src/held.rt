@@ -52,6 +52,7 @@ impl Held {
     }
 
     /// Whether a key with this mark is the one that is held: a whole comparison only where the marks agree.
+    #[inline(always)]
     pub fn is_of(&self, key: &Key, mark: u64) -> bool
         requires { mark ≡ mark_of key.now }
         ensures { result ≡ same_key key.now self.now.0 }

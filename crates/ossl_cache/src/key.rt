@@ -23,6 +23,7 @@ pub struct Kept {
 
 impl Key {
     /// Whether two keys ask for the same. No memory.
+    #[inline(never)]
     pub fn is_same(&self, other: &Key) -> bool
         ensures test { result ≡ same_key self.now other.now }
         ensures equal { IsTrue result ↔ (self.now ≡ other.now) }

@@ -1,9 +1,9 @@
 //! Places that hold answers: which of them holds a key, which is free, and what goes from them.
 
-ghost use Rattle.std.specs.Prelude.{◌≡◌, ◌<◌, None, Some, find, map, length, unwrap_or, option_map, slice_set};
+ghost use Rattle.std.specs.Prelude.{◌≡◌, ◌<◌, None, Some, find, position, map, length, unwrap_or, option_map};
 ghost use Rattle.ossl_cache.specs.Recent.{same_key};
 ghost use Rattle.ossl_cache.specs.Marks.{mark_of};
-ghost use Rattle.ossl_cache.specs.Places.{goes, emptied, held_at, holds_at, is_free, last_place, next_place};
+ghost use Rattle.ossl_cache.specs.Places.{goes, emptied, held_at, holds_in, is_free, last_place, next_place};
 
 use crate::held::Held;
 use crate::key::{Kept, Key};
@@ -57,24 +57,21 @@ fn is_going(going: Going, held: &Held) -> bool
     }
 }
 
-/// The place that holds a key.
-pub fn place_of(slots: &[Slot], order: &Order, key: &Key) -> Option<usize>
-    ensures { result ≡ find (holds_at (same_key key.now) slots.now) (map (λ e. e.0) order.now.entries) }
+/// The first place that holds a key, as the places stand, whatever their order of use.
+pub fn place_of(slots: &[Slot], key: &Key) -> Option<usize>
+    ensures { result ≡ position (holds_in (same_key key.now)) slots.now }
 {
     let mark = mark_of(key);
-    order
-        .iter()
-        .map(|e| *e.0)
-        .find(|place| holds(slots, *place, key, mark))
+    slots.iter().position(|slot| holds(slot, key, mark))
 }
 
-fn holds(slots: &[Slot], place: usize, key: &Key, mark: u64) -> bool
+fn holds(slot: &Slot, key: &Key, mark: u64) -> bool
     requires { mark ≡ mark_of key.now }
-    ensures { result ≡ holds_at (same_key key.now) slots.now place }
+    ensures { result ≡ holds_in (same_key key.now) slot.now }
 {
-    match slots.get(place) {
-        Some(Some(held)) => held.is_of(key, mark),
-        _ => false,
+    match slot {
+        Some(held) => held.is_of(key, mark),
+        None => false,
     }
 }
 
