@@ -13,7 +13,7 @@ use Rattle.ossl_turn.specs.Kinds.{at_stage, Finds, looked, HasTurn, IsWaiting, H
 use Rattle.ossl_turn.specs.Passes.{PassFacts, Answers, HasHistory, facts_of, claim_seen, taken_over}
 use Rattle.atomic_table.specs.Seated.{TableId}
 use Rattle.ossl_turn.proofs.Views.{history_snoc, own_none, own_same}
-use Rattle.ossl_turn.proofs.Keeps.{some_of, object_or}
+use Rattle.ossl_turn.proofs.Lists.{some_of, object_or}
 
 module _ {O C R F : Type 0} (history : O → List (Entry C R)) (fixed : O → F) (follows : F → List (Entry C R) → Entry C R → Type 0) where
   -- the word that the pass drew is its ticket modulo 2^64

@@ -1,5 +1,5 @@
 -- Each step of the turn keeps its rule.
-use Rattle.std.proofs.Common.{◌≡◌, ◌≢◌, ◌⊎◌, inl, inr, ⊎_elim, ℕ, zero, suc, ◌+◌, ◌%◌, ◌^◌, ◌<◌, ◌≤◌, List, [], ◌∷◌, ◌++◌, length, set, get_or, true, false, All, Contains, Some, refl, sym, ap, ◌∙◌, subst, arith, append-nil, true≢false, length-set, length-append, le_refl, lit<}
+use Rattle.std.proofs.Common.{◌≡◌, ◌≢◌, ◌⊎◌, inl, inr, ⊎_elim, ℕ, zero, suc, ◌+◌, ◌%◌, ◌^◌, ◌<◌, ◌≤◌, List, [], ◌∷◌, ◌++◌, length, set, get_or, true, false, All, Contains, refl, sym, ap, ◌∙◌, subst, arith, append-nil, true≢false, length-set, length-append, le_refl, lit<}
 use Rattle.std.proofs.lemmas.Bool.{eqb-true}
 use Rattle.std.proofs.lemmas.List.Elements.{All-append, filter_passes}
 use Rattle.std.specs.Prelude.{◌==◌}
@@ -20,6 +20,7 @@ use Rattle.ossl_turn.specs.declared.rule.Stage.TheVariants.{Idle, Waiting, Turn}
 use Rattle.ossl_turn.specs.History.{own_of, IsHistory}
 use Rattle.ossl_turn.specs.Turn.{HasTicket, has_turn, ticket_of, ticket_count, Stands, Now, Queues, IsSpent, Knows, TurnRule, first_view}
 use Rattle.ossl_turn.specs.Kinds.{SameFixed, at_stage, with_number, split_off, newcomer, joined, spent, after_call, drew_number, drew_ticket, served_none, served, Finds, looked}
+use Rattle.ossl_turn.proofs.Lists.{all_one, all_cons, all_at, some_of, object_or}
 use Rattle.ossl_turn.proofs.Views.{set_there, set_swap, at_end_or, all_prefix, at_below, same_at, prefix_more, history_snoc, history_front, own_other, own_none, waiting_set, waiting_few, waiting_snoc, spent_stays}
 
 module _ {C R F : Type 0} (f : F) where
@@ -37,38 +38,6 @@ module _ {C R F : Type 0} (f : F) where
     queues = queued k.queues;
     taken = λ i d h. let a = k.taken i d h in let c = get_or u.taken i d in let g = gone c.number a.1 in (stands_more t.log t'.log more c longer g.0 a.0, g.1);
   }
-
--- what holds of an element holds of the list of it alone
-all_one : {A : Type 0} (P : A → Type 0) (x : A) → P x → All P (x ∷ [])
-all_one P x p zero d h = p
-all_one P x p (suc k) d h = absurd (omega arith)
-
--- what holds of the first and of the rest holds of the list
-pub all_cons : {A : Type 0} (P : A → Type 0) (x : A) (xs : List A) → P x → All P xs → All P (x ∷ xs)
-all_cons P x xs p ps zero d h = p
-all_cons P x xs p ps (suc k) d h = ps k d (omega arith)
-
--- what holds of all holds of each
-pub all_at : {A : Type 0} (P : A → Type 0) (xs : List A) (x : A) → All P xs → Contains xs x → P x
-all_at P xs x all (k, h, e) = subst P e (all k x h)
-
--- the empty list has no entry
-no_entry : {A : Type 0} (before : List A) (e : A) (after : List A) → [] ≡ before ++ e ∷ after → ⊥
-no_entry [] e after p = cc
-no_entry (b ∷ bs) e after p = cc
-
--- no entries are a history
-pub no_history : {C R : Type 0} (follows : List (Entry C R) → Entry C R → Type 0) → IsHistory follows []
-no_history follows before e after p = absurd (no_entry before e after p)
-
--- the object that a seat holds, or another one
-abbrev pub object_or : {A : Type 0} → A → List (ℕ × A) → A
-object_or d [] = d
-object_or d (x ∷ xs) = x.1
-
--- `Some` of one value is of no other
-pub some_of : {A : Type 0} (x y : A) → Some x ≡ Some y → x ≡ y
-some_of x y e = cc
 
 module _ {C R : Type 0} where
   -- more tickets change nothing for those in the queue

@@ -14,7 +14,8 @@ use Rattle.ossl_turn.specs.declared.rule.Claim.{Claim}
 use Rattle.ossl_turn.specs.History.{IsHistory}
 use Rattle.ossl_turn.specs.Turn.{TurnRule, Stands}
 use Rattle.ossl_turn.specs.Passes.{PassFacts, SharedFacts, CameFrom, AreAll, IsFree, facts_of, claim_seen, taken_over, Confirms}
-use Rattle.ossl_turn.proofs.Keeps.{closes, all_cons}
+use Rattle.ossl_turn.proofs.Keeps.{closes}
+use Rattle.ossl_turn.proofs.Lists.{all_cons}
 use Rattle.std.proofs.lemmas.List.Sorted.{IsPermutation-swap_remove, IsPermutation-sym, All-permutation, Contains-permutation}
 
 module _ {A : Type 0} where

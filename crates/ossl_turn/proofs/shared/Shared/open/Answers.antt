@@ -1,6 +1,6 @@
 use Rattle.std.proofs.Common.{sym, ap, subst, ◌∙◌}
 use Rattle.ossl_turn.specs.History.{IsHistory, own_of}
-use Rattle.ossl_turn.proofs.Keeps.{no_history}
+use Rattle.ossl_turn.proofs.Lists.{no_history}
 use Rattle.ossl_turn.proofs.shared.Shared.open.Goals as goal
 
 pub resume-requires-clause-lawful : goal.resume-requires-clause-lawful
