@@ -30,8 +30,8 @@ impl<const NK: usize, const WORDS: usize> Model for Aes<NK, WORDS> {
 #[inline(always)]
 fn round_key(words: &[u32], n: usize) -> [u32; 4]
     requires { 4 * n + 4 ≤ length words.now }
-    ensures { result ≡ slice_index words.now (4 * n) ∷ slice_index words.now (4 * n + 1) ∷ slice_index words.now
-        (4 * n + 2) ∷ slice_index words.now (4 * n + 3) ∷ [] }
+    ensures { result ≡ slice_index words.now (4 * n) ∷ slice_index words.now (4 * n + 1)
+        ∷ slice_index words.now (4 * n + 2) ∷ slice_index words.now (4 * n + 3) ∷ [] }
 {
     [
         words[4 * n],

@@ -92,9 +92,11 @@ pub fn add(s: [u32; 4], k: [u32; 4]) -> [u32; 4]
 fn sum_4(a: &[u8], b: &[u8], i: usize) -> [u8; 4]
     requires a { i + 4 ≤ length a.now }
     requires b { i + 4 ≤ length b.now }
-    ensures { result ≡ bit_xor (slice_index a.now i) (slice_index b.now i) ∷ bit_xor (slice_index a.now (i + 1))
-        (slice_index b.now (i + 1)) ∷ bit_xor (slice_index a.now (i + 2)) (slice_index b.now (i + 2)) ∷ bit_xor
-        (slice_index a.now (i + 3)) (slice_index b.now (i + 3)) ∷ [] }
+    ensures { result ≡ bit_xor (slice_index a.now i) (slice_index b.now i)
+        ∷ bit_xor (slice_index a.now (i + 1)) (slice_index b.now (i + 1))
+        ∷ bit_xor (slice_index a.now (i + 2)) (slice_index b.now (i + 2))
+        ∷ bit_xor (slice_index a.now (i + 3)) (slice_index b.now (i + 3))
+        ∷ [] }
 {
     let x = u32::from_le_bytes([a[i], a[i + 1], a[i + 2], a[i + 3]]);
     let y = u32::from_le_bytes([b[i], b[i + 1], b[i + 2], b[i + 3]]);
@@ -106,12 +108,15 @@ fn sum_4(a: &[u8], b: &[u8], i: usize) -> [u8; 4]
 fn sum_8(a: &[u8], b: &[u8], i: usize) -> [u8; 8]
     requires a { i + 8 ≤ length a.now }
     requires b { i + 8 ≤ length b.now }
-    ensures { result ≡ bit_xor (slice_index a.now i) (slice_index b.now i) ∷ bit_xor (slice_index a.now (i + 1))
-        (slice_index b.now (i + 1)) ∷ bit_xor (slice_index a.now (i + 2)) (slice_index b.now (i + 2)) ∷ bit_xor
-        (slice_index a.now (i + 3)) (slice_index b.now (i + 3)) ∷ bit_xor (slice_index a.now (i + 4))
-        (slice_index b.now (i + 4)) ∷ bit_xor (slice_index a.now (i + 5)) (slice_index b.now (i + 5)) ∷ bit_xor
-        (slice_index a.now (i + 6)) (slice_index b.now (i + 6)) ∷ bit_xor (slice_index a.now (i + 7))
-        (slice_index b.now (i + 7)) ∷ [] }
+    ensures { result ≡ bit_xor (slice_index a.now i) (slice_index b.now i)
+        ∷ bit_xor (slice_index a.now (i + 1)) (slice_index b.now (i + 1))
+        ∷ bit_xor (slice_index a.now (i + 2)) (slice_index b.now (i + 2))
+        ∷ bit_xor (slice_index a.now (i + 3)) (slice_index b.now (i + 3))
+        ∷ bit_xor (slice_index a.now (i + 4)) (slice_index b.now (i + 4))
+        ∷ bit_xor (slice_index a.now (i + 5)) (slice_index b.now (i + 5))
+        ∷ bit_xor (slice_index a.now (i + 6)) (slice_index b.now (i + 6))
+        ∷ bit_xor (slice_index a.now (i + 7)) (slice_index b.now (i + 7))
+        ∷ [] }
 {
     let x = u64::from_le_bytes([
         a[i],
