@@ -12,30 +12,19 @@ ghost use Rattle.ossl_rows.specs.Tables.{table_of};
 ghost use Rattle.ossl_calls.specs.Registry.{IsCatalogue};
 
 use ossl_base::{Files, Sink, Source, StdSink, StdSource};
-use ossl_files::DirFiles;
+use ossl_files::{DirFiles, words};
 use ossl_par::batch;
 use ossl_provider::Boxed;
 use ossl_rows::{Builtin, builtin};
 use ossl_worker::OpenGate;
 use std::alloc::{AllocError, Global};
 use std::env;
-use std::io::ErrorKind;
 use std::process::ExitCode;
 use std::sync::Wait;
 use std::thread::Threads;
 
 /// The status for want of memory.
 const NO_MEMORY: u8 = 9;
-
-/// The words after the program's name. A word that is not text is no word of the program's, so none are given then.
-fn words(rt: &HostRuntime) -> Result<Vec<String>, AllocError> {
-    let alloc = rt.alloc();
-    match env::args(rt) {
-        Ok(args) => args.skip(1).collect(alloc),
-        Err(error) if error.kind() == ErrorKind::OutOfMemory => Err(AllocError),
-        Err(_) => Ok(Vec::new(alloc)),
-    }
-}
 
 /// Answers the batch of a source over the five built-in providers, and gives the status.
 fn answer<R: Threads + Wait + Sync, S: Source, F: Files, K: Sink>(
@@ -58,7 +47,7 @@ fn answer<R: Threads + Wait + Sync, S: Source, F: Files, K: Sink>(
 
 /// Runs the program, and gives its status.
 fn run<R: Threads + Wait + Sync>(rt: &HostRuntime, threads: &R) -> Result<u8, AllocError> {
-    let words = words(rt)?;
+    let words = words(rt.alloc(), env::args(rt))?;
     let mut source = StdSource::new(rt.stdin());
     let mut files = DirFiles::new(rt);
     let mut sink = StdSink::new(rt.stdout());

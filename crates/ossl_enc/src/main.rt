@@ -4,29 +4,18 @@
 #![tactic(auto)]
 
 use ossl_base::{StdSink, StdSource};
-use ossl_files::DirFiles;
+use ossl_files::{DirFiles, words};
 use ossl_salted::enc;
 use std::alloc::AllocError;
 use std::env;
-use std::io::ErrorKind;
 use std::process::ExitCode;
 
 /// The status for want of memory.
 const NO_MEMORY: u8 = 9;
 
-/// The words after the program's name. A word that is not text is no word of the program's, so none are given then.
-fn words(rt: &HostRuntime) -> Result<Vec<String>, AllocError> {
-    let alloc = rt.alloc();
-    match env::args(rt) {
-        Ok(args) => args.skip(1).collect(alloc),
-        Err(error) if error.kind() == ErrorKind::OutOfMemory => Err(AllocError),
-        Err(_) => Ok(Vec::new(alloc)),
-    }
-}
-
 /// Runs the program, and gives its status.
 fn run(rt: &HostRuntime) -> Result<u8, AllocError> {
-    let words = words(rt)?;
+    let words = words(rt.alloc(), env::args(rt))?;
     let mut source = StdSource::new(rt.stdin());
     let mut sink = StdSink::new(rt.stdout());
     let mut files = DirFiles::new(rt);

@@ -1,13 +1,15 @@
-//! The files of the system, as the programs read them: `DirFiles`, beside std's streams the outside that is trusted.
+//! The files of the system and the words of a program: `DirFiles` and `words`, with std's streams the trusted outside.
 //! Promise: a file that cannot be read is counted, and none is longer than the limit. What a file holds no clause says.
 //! Files are found as open(2) finds them, from the working folder. Work grows with the bytes of a file.
 #![tactic(auto)]
 
+mod arguments;
 #[cfg(test)]
 mod tests;
 
 ghost use Rattle.std.specs.Prelude.{◌≡◌, ◌≤◌, length, IfOk, None};
 
+pub use crate::arguments::words;
 use ossl_base::{FileRefusal, Files, ReadRefusal, StdSource, read_all};
 use std::alloc::Global;
 use std::io::{ErrorKind, Read};
