@@ -1,13 +1,9 @@
 -- What the checks of commands find in what is kept.
-use Rattle.std.proofs.Common.{◌≡◌, ℕ, Bool, true, false, List, [], Option, None, Some, refl, sym, ap, ◌∙◌, subst}
+use Rattle.std.proofs.Common.{◌≡◌, ℕ, true, List, Option, None, Some, refl, sym, ap, ◌∙◌, subst}
 use Rattle.std.specs.Prelude.{⊤, Result, Ok, Err, IfOk, is_some}
 use Rattle.std.specs.Result.{IsErr, IsErrAnd}
 use Rattle.ossl_commands.specs.declared.command.Command.{Command}
 use Rattle.ossl_commands.specs.Counts.{arguments_in}
-use Rattle.ossl_property.specs.declared.clause.Clause.{Clause}
-use Rattle.ossl_property.specs.declared.clause.TextRefused.{TextRefused}
-use Rattle.ossl_property.specs.declared.clause.TextRefused.TheVariants as refusals
-use Rattle.ossl_property.specs.Said.{AnswersSaid}
 use Rattle.ossl_script.specs.declared.bound.Bound.{Bound}
 use Rattle.ossl_script.specs.declared.bound.Bound.TheVariants as kept
 use Rattle.ossl_script.specs.declared.bound.Running.{Running}
@@ -20,11 +16,11 @@ use Rattle.ossl_script.specs.declared.stage.Stage.{Stage}
 use Rattle.ossl_state.specs.declared.call.Reply.{Reply}
 use Rattle.ossl_script.specs.Commands.{course_of}
 use Rattle.ossl_script.specs.Given.{Content, fed_by}
-use Rattle.ossl_script.specs.declared.outcome.Outcome.TheVariants.{UnknownName, NotLoaded, WrongKind}
-use Rattle.ossl_script.specs.Bindings.{Binding, Bindings, Method, Operating}
+use Rattle.ossl_script.specs.declared.outcome.Outcome.TheVariants.{WrongKind}
+use Rattle.ossl_script.specs.Bindings.{Binding, Bindings, Method}
 use Rattle.ossl_script.specs.Bindings.Binding.{activation, method, running, finished}
 use Rattle.ossl_script.specs.Course.{Course, by_activation, by_context, by_method}
-use Rattle.ossl_script.specs.Course.Course.{ask, said}
+use Rattle.ossl_script.specs.Course.Course.{said}
 use Rattle.ossl_script.specs.Names.{Agree, Names, StandsFor, bound_at}
 use Rattle.ossl_script.specs.Stages.{Checks, IsAsked, Leads, Starts, after, meant}
 

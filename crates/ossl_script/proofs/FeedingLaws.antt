@@ -1,9 +1,9 @@
 -- Bytes fed one after the other are fed joined.
-use Rattle.std.proofs.Common.{◌≡◌, ℕ, List, [], ◌∷◌, ◌++◌, refl, sym, ap, ◌∙◌, subst, append_assoc}
+use Rattle.std.proofs.Common.{◌≡◌, ℕ, List, [], ◌++◌, sym, ap, ◌∙◌, subst, append_assoc}
 use Rattle.std.proofs.lemmas.List.{append-nil}
 use Rattle.ossl_op.specs.declared.context.OpCtx.{OpCtx}
 use Rattle.ossl_op.specs.Running.{Runs}
-use Rattle.ossl_op.specs.Work.{Work, Appends, CarriesOn, carried_on}
+use Rattle.ossl_op.specs.Work.{Appends, CarriesOn, carried_on}
 use Rattle.ossl_script.specs.Feeding.{Fed}
 
 -- one feed

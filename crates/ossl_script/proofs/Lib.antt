@@ -9,6 +9,8 @@ pub mod WorkedWhole
 pub mod HeldLaws
 pub mod RenamingLaws
 pub mod OwnLaws
+pub mod NamesHeld
+pub mod CourseLaws
 pub mod OwnedLaws
 pub mod ContextLaws
 pub mod AllowedLaws

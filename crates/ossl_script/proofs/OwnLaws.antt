@@ -5,7 +5,7 @@ use Rattle.ossl_codes.specs.declared.code.Operation.{Operation}
 use Rattle.ossl_state.specs.declared.call.Reply.{Reply}
 use Rattle.ossl_script.specs.declared.caller.LineResult.{LineResult}
 use Rattle.ossl_commands.specs.declared.command.Argument.{Argument}
-use Rattle.ossl_commands.specs.declared.command.Argument.TheVariants.{Piece, Key, Iv, Salt, Info}
+use Rattle.ossl_commands.specs.declared.command.Argument.TheVariants.{Piece}
 use Rattle.ossl_commands.specs.declared.command.Command.{Command}
 use Rattle.ossl_commands.specs.declared.command.Command.TheVariants.{Open, Feed, Perform}
 use Rattle.ossl_commands.specs.declared.command.Line.{Line}

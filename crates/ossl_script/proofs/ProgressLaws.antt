@@ -22,8 +22,8 @@ use Rattle.std.proofs.lemmas.Bool.{ltb-true}
 use Rattle.std.proofs.lemmas.List.{drop_more, length-append}
 use Rattle.ossl_script.specs.declared.caller.Next.TheVariants as nexts
 use Rattle.ossl_script.specs.Commands.{course_of}
-use Rattle.ossl_script.specs.Progress.{Arrives, Asked, Moves, Ready, Settled, Steps, fed_in, from_here}
-use Rattle.ossl_script.specs.Stages.{Leads, after, meant}
+use Rattle.ossl_script.specs.Progress.{Arrives, Moves, Ready, Settled, Steps, fed_in, from_here}
+use Rattle.ossl_script.specs.Stages.{Leads, after}
 
 -- a line that is done leads on from its result
 told_on : (content : Content) (held : List Held) (told : List LineResult) (number : ℕ) (outcome : Outcome) (bindings : Bindings) (lines : List Line)

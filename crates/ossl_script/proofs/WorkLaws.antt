@@ -1,11 +1,12 @@
 -- A caller at work: the tokens that it gives back, and where it stands at its start and after a reply.
-use Rattle.std.proofs.Common.{◌≡◌, ℕ, Bool, true, false, nat_eq, zero, suc, ◌+◌, ◌-◌, ◌<◌, List, [], ◌∷◌, ◌++◌, map, length, take, drop, Option, Some, None, refl, sym, ap, ◌∙◌, subst, append_assoc, arith}
-use Rattle.std.specs.Prelude.{IfOk, IfSome, Ok, OnOk, Result, Vec, cond, is_some, vec_capacity, vec_len}
+use Rattle.std.proofs.Common.{◌≡◌, ℕ, Bool, true, false, nat_eq, zero, suc, ◌-◌, ◌<◌, List, [], ◌∷◌, ◌++◌, map, length, take, drop, Option, Some, None, refl, sym, ap, ◌∙◌, subst, append_assoc, arith}
+use Rattle.std.specs.Prelude.{IfOk, IfSome, Ok, OnOk, Result, Vec, cond, is_some, option_map, vec_capacity, vec_len}
 use Rattle.std.specs.declared.alloc.Global.{Global}
 use Rattle.std.proofs.lemmas.Bool.{true≢false}
 use Rattle.std.proofs.lemmas.List.{append-nil, length-append, map-append}
 use Rattle.std.proofs.Math.Seq.{take-append_seam}
 use Rattle.ossl_state.specs.declared.call.Call.{Call}
+use Rattle.ossl_state.specs.declared.call.Call.TheVariants as calls
 use Rattle.ossl_state.specs.declared.call.Reply.{Reply}
 use Rattle.ossl_commands.specs.declared.command.Line.{Line}
 use Rattle.ossl_script.specs.declared.bound.Bound.{Bound}
@@ -20,7 +21,7 @@ use Rattle.ossl_script.specs.declared.tokens.Place.{Place}
 use Rattle.ossl_script.specs.Bindings.{nothing_bound}
 use Rattle.ossl_script.specs.Caller.{Place as At, Standing, after_reply, after_reply_at, call_in, goes_on, lines_of, next_at, opening, standing_of, stands}
 use Rattle.ossl_script.specs.Given.{Content, content_by}
-use Rattle.ossl_script.specs.Held.{give_back_call, give_back_calls, held_after}
+use Rattle.ossl_script.specs.Held.{give_back_call, give_back_calls, handed_out, held_after, left_by, with_handed, without_texts}
 use Rattle.ossl_script.specs.Names.{Agree, Names, StandsFor, bound_at}
 use Rattle.ossl_script.specs.Places.{Ascends, held_in}
 use Rattle.ossl_script.specs.Progress.{Arrives, Asked, HasLine, Ready, Stands, StandsAt, fed_in, from_here}
@@ -35,7 +36,7 @@ none_some call h = cc
 some_same : (call other : Call) → Some call ≡ Some other → call ≡ other
 some_same call other h = cc
 
-is_called : (next : Next) → is_some (call_in next) ≡ is_call next
+is_called : (next : Next) → is_some (option_map without_texts (call_in next)) ≡ is_call next
 is_called (nexts.Call line call) = refl
 is_called nexts.End = refl
 
@@ -90,6 +91,34 @@ all_given all gone left same none =
     ∙ ap (λ (xs : List Held). map give_back_call xs) (sym (same ∙ ap (λ (xs : List Held). gone ++ xs) none ∙ append-nil gone))
 
 -- 2. A reply to the call that waits.
+
+handed_without : (call : Call) (reply : Reply) → handed_out call reply ≡ handed_out (without_texts call) reply
+handed_without (calls.Load l name retain) reply = refl
+handed_without (calls.Unload t) reply = refl
+handed_without (calls.SetDefault l query) reply = refl
+handed_without (calls.Fetch l op name query) reply = refl
+handed_without (calls.UpRef h) reply = refl
+handed_without (calls.Free h) reply = refl
+handed_without (calls.NewCtx h inner len) reply = refl
+handed_without (calls.FreeCtx h) reply = refl
+handed_without (calls.CloseLib l) reply = refl
+
+left_without : (call : Call) (reply : Reply) (held : List Held) → left_by call reply held ≡ left_by (without_texts call) reply held
+left_without (calls.Load l name retain) reply held = refl
+left_without (calls.Unload t) reply held = refl
+left_without (calls.SetDefault l query) reply held = refl
+left_without (calls.Fetch l op name query) reply held = refl
+left_without (calls.UpRef h) reply held = refl
+left_without (calls.Free h) reply held = refl
+left_without (calls.NewCtx h inner len) reply held = refl
+left_without (calls.FreeCtx h) reply held = refl
+left_without (calls.CloseLib l) reply held = refl
+
+-- the texts of a call change no token
+held_without : (call : Call) (reply : Reply) (held : List Held) → held_after call reply held ≡ held_after (without_texts call) reply held
+held_without call reply held =
+    ap (λ (token : Option Held). with_handed token (left_by call reply held)) (handed_without call reply)
+    ∙ ap (λ (left : List Held). with_handed (handed_out (without_texts call) reply) left) (left_without call reply held)
 
 less_of : (k : ℕ) (lines : List Line) (line : Line) (behind : List Line) → drop k lines ≡ line ∷ behind → k < length lines
 less_of zero (x ∷ xs) line behind h = omega arith
@@ -167,7 +196,7 @@ pub works_with_places : (s : Inside) (places : Vec Place Global) (gone : List He
     → Works (record s { places = places })
 works_with_places s places gone works ascends held room = record {
   holds = record { ascends = ascends; gone = gone; held = held };
-  waits = λ call unrefused is. let w = works.waits call unrefused is in record { line = w.line; asked = w.asked; place = room w.place; reply = w.reply };
+  waits = λ call unrefused is. let w = works.waits call unrefused is in record { line = w.line; call = w.call; same = w.same; asked = w.asked; place = room w.place; reply = w.reply };
   between = λ unrefused going is. let b = works.between unrefused going is in record { stands = b.stands; line = b.line };
   done = λ ends. let e = works.done ends in record { told = e.told; place = e.place; idle = e.idle };
 }
@@ -190,8 +219,10 @@ module _ (s : Inside) (asked : Option Call) (places : Vec Place Global) (replies
   left : later.held ≡ held_in places.items
   left =
       let w = works.waits call unrefused waits in
-      held_then (content_by s.contents.items) s.lines.items s.progress (standing_in s) later w.line call reply w.asked (standing_answered s replies.items reply taken)
-      ∙ ap (λ (all : List Held). held_after call reply all) (all_left_of (standing_in s).held works.holds.gone (held_in s.places.items) works.holds.held none)
+      held_then (content_by s.contents.items) s.lines.items s.progress (standing_in s) later w.line w.call reply w.asked (standing_answered s replies.items reply taken)
+      ∙ ap (λ (all : List Held). held_after w.call reply all) (all_left_of (standing_in s).held works.holds.gone (held_in s.places.items) works.holds.held none)
+      ∙ held_without w.call reply (held_in s.places.items)
+      ∙ ap (λ (kept : Call). held_after kept reply (held_in s.places.items)) (sym w.same)
       ∙ sym held
 
   pub works_answered : Works (record s { asked = asked; places = places; replies = replies })
@@ -204,9 +235,9 @@ module _ (s : Inside) (asked : Option Call) (places : Vec Place Global) (replies
         waits = λ other unrefused is. absurd (none_some other (sym idle ∙ is));
         between = λ unrefused going is. record {
           stands = subst (λ (rs : List Reply). Stands content s.lines.items rs s.progress later) (sym taken)
-              (stands_then content s.lines.items s.progress (standing_in s) later w.line call reply w.asked step s.replies.items);
+              (stands_then content s.lines.items s.progress (standing_in s) later w.line w.call reply w.asked step s.replies.items);
           line = subst (λ (rs : List Reply). HasLine s.progress s.lines.items rs) (sym taken)
-              (line_then content s.lines.items s.progress (standing_in s) later w.line call reply w.asked step s.replies.items);
+              (line_then content s.lines.items s.progress (standing_in s) later w.line w.call reply w.asked step s.replies.items);
         };
         done = λ ends. absurd (none_some call (sym (works.done ends).idle ∙ waits));
       }
@@ -258,22 +289,22 @@ module _ (s : Inside) (progress : Progress) (replies : Vec Reply Global) (places
       let waiting : is_some asked ≡ is_some s.asked = ap (λ (o : Option Call). is_some o) (idle ∙ sym was) in
       cc
 
-  pub works_told : (ended : Bool) (next : Next) → asked ≡ call_in next → ended ≡ is_end next
+  pub works_told : (ended : Bool) (next : Next) → asked ≡ option_map without_texts (call_in next) → ended ≡ is_end next
       → IfSome asked (λ call. vec_len places < vec_capacity places) → IfSome asked (λ call. vec_len replies < vec_capacity replies)
       → Arrives (content_by s.contents.items) s.lines.items progress (standing_in s) next
       → Works (record s { progress = progress; replies = replies; places = places; asked = asked; ended = ended })
   works_told ended (nexts.Call number call) asks ends place reply arrives = record {
     holds = record { ascends = still_ascends; gone = works.holds.gone; held = still_held };
     waits = λ other unrefused is.
-        let same : call ≡ other = some_same call other (sym asks ∙ is) in
         record {
           line = arrives.0;
-          asked = subst (λ (standing : Standing). Asked (content_by s.contents.items) s.lines.items progress standing arrives.0 other) (sym same_standing)
-              (subst (λ (c : Call). Asked (content_by s.contents.items) s.lines.items progress (standing_in s) arrives.0 c) same arrives.2);
+          call = call;
+          same = sym (some_same (without_texts call) other (sym asks ∙ is));
+          asked = subst (λ (standing : Standing). Asked (content_by s.contents.items) s.lines.items progress standing arrives.0 call) (sym same_standing) arrives.2;
           place = subst (λ (o : Option Call). IfSome o (λ one. vec_len places < vec_capacity places)) is place;
           reply = subst (λ (o : Option Call). IfSome o (λ one. vec_len replies < vec_capacity replies)) is reply;
         };
-    between = λ unrefused going is. absurd (none_some call (sym is ∙ asks));
+    between = λ unrefused going is. absurd (none_some (without_texts call) (sym is ∙ asks));
     done = λ ended_now. absurd (true≢false (sym ended_now ∙ ends));
   }
   works_told ended nexts.End asks ends place reply arrives = record {
@@ -287,7 +318,7 @@ module _ (s : Inside) (progress : Progress) (replies : Vec Reply Global) (places
     };
   }
 
-  pub view_told : (ended : Bool) (next : Next) → asked ≡ call_in next → ended ≡ is_end next
+  pub view_told : (ended : Bool) (next : Next) → asked ≡ option_map without_texts (call_in next) → ended ≡ is_end next
       → view_of (record s { progress = progress; replies = replies; places = places; asked = asked; ended = ended }) ≡ told next (view_of s)
   view_told ended next asks ends =
       let given = same_given in

@@ -1,5 +1,5 @@
 -- What the words behind the fixed ones give a command: the bytes of its data, and its options with their defaults.
-use Rattle.std.specs.Prelude.{ℕ, true, Option, Some, None, List, [], fold, flat_map}
+use Rattle.std.specs.Prelude.{ℕ, true, Some, None, List, [], fold, flat_map}
 use Rattle.ossl_codes.specs.declared.code.Operation.TheVariants as operations
 use Rattle.ossl_codes.specs.declared.param.Direction.TheVariants.{Encrypt}
 use Rattle.ossl_codes.specs.declared.param.KdfMode.TheVariants.{Both}

@@ -2,7 +2,7 @@
 use Rattle.std.specs.Prelude.{ℕ, nat_lt, Bool, not, if◌then◌else◌, Option, Some, None, List, [], ◌∷◌, filter, map}
 use Rattle.std.specs.List.{list_any}
 use Rattle.ossl_state.specs.declared.call.Call.{Call}
-use Rattle.ossl_state.specs.declared.call.Call.TheVariants.{Load, Unload, Fetch, UpRef, Free, NewCtx, FreeCtx}
+use Rattle.ossl_state.specs.declared.call.Call.TheVariants.{Load, Unload, SetDefault, Fetch, UpRef, Free, NewCtx, FreeCtx}
 use Rattle.ossl_state.specs.declared.call.Reply.{Reply}
 use Rattle.ossl_state.specs.declared.call.Reply.TheVariants.{Loaded, Fetched, Made, Done}
 use Rattle.ossl_state.specs.Tokens.{Token, gives_up_by}
@@ -43,6 +43,13 @@ left_by call reply held = filter (λ token. not (gives_up_by call reply token.nu
 -- one that it hands out
 abbrev pub held_after : Call → Reply → List Held → List Held
 held_after call reply held = with_handed (handed_out call reply) (left_by call reply held)
+
+-- a call without its texts, which hands out and gives back the same tokens
+abbrev pub without_texts : Call → Call
+without_texts (Load l name retain) = Load l [] retain
+without_texts (SetDefault l query) = SetDefault l []
+without_texts (Fetch l op name query) = Fetch l op [] []
+without_texts call = call
 
 -- the call that gives a token back
 abbrev pub give_back_call : Held → Call

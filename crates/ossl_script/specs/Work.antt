@@ -1,5 +1,5 @@
 -- What a caller at work keeps, against where it stands.
-use Rattle.std.specs.Prelude.{◌≡◌, ◌-◌, ◌<◌, true, false, Option, Some, None, is_some, List, ◌++◌, length, map, take}
+use Rattle.std.specs.Prelude.{◌≡◌, ◌-◌, ◌<◌, true, false, Some, None, is_some, List, ◌++◌, length, map, take}
 use Rattle.std.specs.Prelude.{vec_capacity, vec_len}
 use Rattle.ossl_state.specs.declared.call.Call.{Call}
 use Rattle.ossl_commands.specs.declared.command.Line.{Line}
@@ -8,7 +8,7 @@ use Rattle.ossl_script.specs.declared.script_caller.ScriptCaller.TheInside.{Insi
 use Rattle.ossl_script.specs.Caller.{Standing, lines_of, stands}
 use Rattle.ossl_script.specs.Caller.Place.{ended}
 use Rattle.ossl_script.specs.Given.{content_by}
-use Rattle.ossl_script.specs.Held.{give_back_call}
+use Rattle.ossl_script.specs.Held.{give_back_call, without_texts}
 use Rattle.ossl_script.specs.Places.{Ascends, held_in}
 use Rattle.ossl_script.specs.Progress.{Asked, HasLine, Stands}
 use Rattle.ossl_script.specs.View.{ScriptCallerView}
@@ -39,9 +39,11 @@ pub record Holds (s : Inside) : Type 0 where
   pub gone : List Held
   pub held : (standing_in s).held ≡ gone ++ held_in s.places.items
 
--- a call waits, for whose reply and token there is room
-pub record Waits (s : Inside) (call : Call) : Type 0 where
+-- a call waits, of which all but its texts is kept, and for whose reply and token there is room
+pub record Waits (s : Inside) (kept : Call) : Type 0 where
   pub line : Line
+  pub call : Call
+  pub same : kept ≡ without_texts call
   pub asked : Asked (content_by s.contents.items) s.lines.items s.progress (standing_in s) line call
   pub place : vec_len s.places < vec_capacity s.places
   pub reply : vec_len s.replies < vec_capacity s.replies
@@ -60,6 +62,6 @@ pub record AtEnd (s : Inside) : Type 0 where
 -- what is kept is what the caller's lines and replies lead to
 pub record Works (s : Inside) : Type 0 where
   pub holds : Holds s
-  pub waits : (call : Call) → s.refused ≡ false → s.asked ≡ Some call → Waits s call
+  pub waits : (kept : Call) → s.refused ≡ false → s.asked ≡ Some kept → Waits s kept
   pub between : s.refused ≡ false → s.ended ≡ false → s.asked ≡ None → Between s
   pub done : s.ended ≡ true → AtEnd s

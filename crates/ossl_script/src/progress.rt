@@ -1,11 +1,11 @@
 //! A caller's lines, worked through from call to call.
 
 ghost use Rattle.std.specs.Prelude.{◌≡◌, ◌∷◌, ◌++◌, ◌<◌, ◌-◌, ◌^◌, [], IfOk, IfSome, List, None, OnErr, OnOk, drop};
-ghost use Rattle.std.specs.Prelude.{vec_capacity, vec_len};
+ghost use Rattle.std.specs.Prelude.{option_map, vec_capacity, vec_len};
 ghost use Rattle.ossl_commands.specs.declared.command.Line.{Line as TheLine};
 ghost use Rattle.ossl_script.specs.Caller.{Standing, call_in};
 ghost use Rattle.ossl_script.specs.Given.{content_by};
-ghost use Rattle.ossl_script.specs.Held.{held_after};
+ghost use Rattle.ossl_script.specs.Held.{held_after, without_texts};
 ghost use Rattle.ossl_script.specs.Places.{Ascends, held_in};
 ghost use Rattle.ossl_script.specs.Progress.{Answered, Arrives, HasLine, Moves, Ready, Settled, Stands, Steps};
 
@@ -15,7 +15,7 @@ use crate::commands::{arguments_in, begin};
 use crate::outcome::put_outcome;
 use crate::resume::resume;
 use crate::stage::{Course, Stage};
-use crate::tokens::{Place, take_answer};
+use crate::tokens::{Place, take_answer, without_texts};
 use ossl_base::text::{Bytes, Text};
 use ossl_commands::Line;
 use ossl_state::{Call, Reply};
@@ -171,7 +171,7 @@ pub fn go_on_with_room(
     requires idle { asked.old ≡ None }
     ensures replies { replies.new.items ≡ replies.old.items }
     ensures places { places.new.items ≡ places.old.items }
-    ensures asked { IfOk result (λ next. asked.new ≡ call_in next) }
+    ensures asked { IfOk result (λ next. asked.new ≡ option_map without_texts (call_in next)) }
     ensures refused { OnErr result (asked.new ≡ None) }
     ensures room_for_token { OnOk result (IfSome asked.new (λ call. vec_len places.new < vec_capacity places.new)) }
     ensures room_for_reply { OnOk result (IfSome asked.new (λ call. vec_len replies.new < vec_capacity replies.new)) }
@@ -181,10 +181,9 @@ pub fn go_on_with_room(
 {
     let next = go_on(alloc, progress, contents, lines, replies.as_slice())?;
     if let Next::Call { call, .. } = &next {
-        let call = call.copy(alloc)?;
         replies.reserve(1)?;
         places.reserve(1)?;
-        *asked = Some(call);
+        *asked = Some(without_texts(alloc, call));
     }
     Ok(next)
 }

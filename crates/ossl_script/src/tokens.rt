@@ -3,11 +3,14 @@
 
 ghost use Rattle.std.specs.Prelude.{◌≡◌, ◌<◌, vec_capacity, vec_len};
 ghost use Rattle.ossl_state.specs.declared.call.Reply.{Reply as TheReply};
-ghost use Rattle.ossl_script.specs.Held.{give_back_call, held_after, left_by, with_token};
+ghost use Rattle.ossl_script.specs.Held.{give_back_call, held_after, left_by, with_token, without_texts};
 ghost use Rattle.ossl_script.specs.Places.{Ascends, Takes, held_in};
 
 use crate::held::{Held, TokenKind};
+use ossl_base::text::Text;
+use ossl_property::Query;
 use ossl_state::{Call, Reply};
+use std::alloc::Global;
 
 /// A token that was handed out, and whether it is still held.
 #[derive(Clone, Copy, Debug, PartialEq, Eq)]
@@ -49,6 +52,43 @@ fn give_up(places: &mut Vec<Place>, token: Held)
         if places[place].token.kind == token.kind {
             places[place].kept = false;
         }
+    }
+}
+
+/// A call without its texts: as much of it as the tokens turn on.
+pub fn without_texts(alloc: Global, call: &Call) -> Call
+    ensures { result ≡ without_texts call.now }
+{
+    match call {
+        Call::Load { lib, retain, .. } => Call::Load {
+            lib: *lib,
+            name: Text::of(Vec::new(alloc)),
+            retain: *retain,
+        },
+        Call::SetDefault { lib, .. } => Call::SetDefault {
+            lib: *lib,
+            query: Query::empty(alloc),
+        },
+        Call::Fetch { lib, op, .. } => Call::Fetch {
+            lib: *lib,
+            op: *op,
+            name: Text::of(Vec::new(alloc)),
+            query: Query::empty(alloc),
+        },
+        Call::Unload { token } => Call::Unload { token: *token },
+        Call::UpRef { handle } => Call::UpRef { handle: *handle },
+        Call::Free { handle } => Call::Free { handle: *handle },
+        Call::NewCtx {
+            handle,
+            inner,
+            key_len,
+        } => Call::NewCtx {
+            handle: *handle,
+            inner: *inner,
+            key_len: *key_len,
+        },
+        Call::FreeCtx { handle } => Call::FreeCtx { handle: *handle },
+        Call::CloseLib { lib } => Call::CloseLib { lib: *lib },
     }
 }
 

@@ -1,25 +1,21 @@
-use Rattle.std.proofs.Common.{◌≡◌, ℕ, List, [], refl, sym, ap, ◌∙◌, subst}
-use Rattle.std.specs.Prelude.{⊤, Result, Ok, Err}
-use Rattle.ossl_state.specs.declared.call.Call.TheVariants as calls
-use Rattle.ossl_property.specs.declared.clause.Clause.{Clause}
+use Rattle.std.proofs.Common.{ℕ, List, refl, sym, ap, ◌∙◌, subst}
+use Rattle.std.specs.Prelude.{Result, Err}
 use Rattle.ossl_commands.specs.declared.command.Command.TheVariants as commands
 use Rattle.ossl_script.specs.declared.checks.Halt.{Halt}
 use Rattle.ossl_script.specs.declared.stage.Asking.{Asking}
-use Rattle.ossl_script.specs.Bindings.{Bindings, Method}
-use Rattle.ossl_script.specs.Commands.{after_fetch, after_load, after_up_ref, course_of, opened}
-use Rattle.ossl_script.specs.Course.{Course, binds, reads, uses_inner, uses_method}
-use Rattle.ossl_script.specs.Course.Course.{ask, said}
-use Rattle.ossl_script.specs.Given.{content_by, fed_by, options_of}
+use Rattle.ossl_script.specs.Bindings.{Bindings}
+use Rattle.ossl_script.specs.Commands.{course_of, opened}
+use Rattle.ossl_script.specs.Course.{Course, binds, uses_inner, uses_method}
+use Rattle.ossl_script.specs.Course.Course.{said}
+use Rattle.ossl_script.specs.Given.{content_by, fed_by}
 use Rattle.ossl_script.specs.Names.{Agree}
-use Rattle.ossl_script.specs.Stages.{Checks, Starts, course_in}
-use Rattle.std.proofs.Common.{Option, None, Some}
-use Rattle.ossl_op.specs.declared.params.BeginRefused.{BeginRefused}
+use Rattle.ossl_script.specs.Stages.{Starts}
 use Rattle.ossl_script.specs.declared.options.Options.{Options}
 use Rattle.ossl_script.specs.declared.outcome.Outcome.TheVariants as outcomes
 use Rattle.ossl_script.specs.Commands.{after_open}
 use Rattle.ossl_script.specs.Stages.{opening_with}
 use Rattle.ossl_script.specs.Whole.{code_of}
-use Rattle.ossl_script.proofs.CheckLaws.{anyhow, handed, passes, stops}
+use Rattle.ossl_script.proofs.CheckLaws.{handed, passes, stops}
 use Rattle.ossl_script.proofs.begin.open.Goals as goal
 
 -- the course of the command with these options

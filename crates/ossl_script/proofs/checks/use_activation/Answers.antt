@@ -1,8 +1,7 @@
-use Rattle.std.proofs.Common.{◌≡◌, ℕ, List, Option, None, Some, refl, sym, ap, ◌∙◌}
+use Rattle.std.proofs.Common.{ℕ, List, None, Some, sym, ap, ◌∙◌}
 use Rattle.ossl_script.specs.declared.bound.Bound.TheVariants as kept
 use Rattle.ossl_script.specs.declared.checks.Halt.TheVariants.{Said}
 use Rattle.ossl_script.specs.declared.outcome.Outcome.TheVariants as outcomes
-use Rattle.ossl_script.specs.Bindings.{Binding}
 use Rattle.ossl_script.specs.Course.{by_activation, uses_activation}
 use Rattle.ossl_script.specs.Course.Course.{said}
 use Rattle.ossl_script.specs.Names.{Agree}

@@ -1,10 +1,8 @@
-use Rattle.std.proofs.Common.{◌≡◌, ℕ, List, Option, None, Some, refl, sym, ap, ◌∙◌}
+use Rattle.std.proofs.Common.{ℕ, List, None, Some, sym, ap, ◌∙◌}
 use Rattle.ossl_script.specs.declared.bound.Bound.TheVariants as kept
 use Rattle.ossl_script.specs.declared.checks.Halt.TheVariants.{Said}
 use Rattle.ossl_script.specs.declared.outcome.Outcome.TheVariants as outcomes
-use Rattle.ossl_script.specs.Bindings.{Binding}
 use Rattle.ossl_script.specs.Course.{by_method, uses_method}
-use Rattle.ossl_script.specs.Course.Course.{said}
 use Rattle.ossl_script.specs.Names.{Agree}
 use Rattle.ossl_script.proofs.CheckLaws.{found_method, halts, kept_at, no_method, nothing_there}
 use Rattle.ossl_script.proofs.checks.use_method.Goals as goal

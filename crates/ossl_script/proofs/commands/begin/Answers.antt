@@ -1,11 +1,10 @@
-use Rattle.std.proofs.Common.{◌≡◌, ℕ, List, [], refl, sym, ap, ◌∙◌, subst}
+use Rattle.std.proofs.Common.{List, sym, subst}
 use Rattle.std.specs.Prelude.{⊤}
 use Rattle.ossl_commands.specs.declared.command.Argument.{Argument}
 use Rattle.ossl_commands.specs.declared.command.Command.{Command}
 use Rattle.ossl_commands.specs.declared.command.Command.TheVariants as commands
 use Rattle.ossl_script.specs.declared.stage.Course.TheVariants as left
 use Rattle.ossl_script.specs.Stages.{Starts}
-use Rattle.ossl_script.specs.Bindings.{Bindings}
 use Rattle.ossl_script.specs.Commands.{course_of}
 use Rattle.ossl_script.specs.Given.{content_by, fed_by}
 use Rattle.ossl_script.specs.Names.{Agree}

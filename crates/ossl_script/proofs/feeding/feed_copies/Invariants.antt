@@ -1,4 +1,4 @@
-use Rattle.std.proofs.Common.{ℕ, ◌≤◌, ◌-◌}
+use Rattle.std.proofs.Common.{◌≤◌, ◌-◌}
 use Rattle.std.specs.Prelude.{replicate}
 use Rattle.ossl_script.specs.Feeding.{Fed}
 use Rattle.ossl_script.proofs.feeding.feed_copies.Given as goal

@@ -1,4 +1,4 @@
-use Rattle.std.proofs.Common.{◌≡◌, ℕ, List, [], sym, ap, ◌∙◌, arith}
+use Rattle.std.proofs.Common.{◌≡◌, [], sym, ap, ◌∙◌, arith}
 use Rattle.ossl_script.specs.Given.{content_by, data_bytes}
 use Rattle.ossl_script.proofs.FeedingLaws.{fed_as, fed_nothing}
 use Rattle.ossl_script.proofs.feeding.feed_data.Goals as goal

@@ -1,14 +1,11 @@
-use Rattle.std.proofs.Common.{◌≡◌, ℕ, ◌+◌, ◌-◌, List, [], ◌∷◌, drop, length, None, Some, Option, refl, sym, ap, ◌∙◌, subst, arith}
-use Rattle.ossl_state.specs.declared.call.Call.{Call}
-use Rattle.ossl_commands.specs.declared.command.Argument.{Argument}
+use Rattle.std.proofs.Common.{◌≡◌, List, ◌∷◌, drop}
 use Rattle.ossl_commands.specs.declared.command.Line.{Line}
 use Rattle.ossl_script.specs.declared.progress.Progress.{Progress}
 use Rattle.ossl_script.specs.Caller.{Standing}
 use Rattle.ossl_script.specs.Commands.{course_of}
-use Rattle.ossl_script.specs.Given.{content_by, fed_by}
-use Rattle.ossl_script.specs.Progress.{Answered, Arrives, Asked, Moves, Ready, Settled, Steps}
-use Rattle.ossl_script.specs.Stages.{Leads, after}
-use Rattle.ossl_script.proofs.ProgressLaws.{arrived, begins, if_ok, moves, steps}
+use Rattle.ossl_script.specs.Given.{content_by}
+use Rattle.ossl_script.specs.Progress.{Moves, Ready, Settled, Steps}
+use Rattle.ossl_script.proofs.ProgressLaws.{begins, if_ok, moves, steps}
 use Rattle.ossl_script.proofs.progress.begin_line.Goals as goal
 
 pub returns : goal.returns

@@ -1,13 +1,9 @@
-use Rattle.std.proofs.Common.{◌≡◌, ℕ, ◌+◌, ◌-◌, ◌≤◌, List, [], ◌∷◌, ◌++◌, drop, length, get_or, None, Some, Option, refl, sym, ap, ◌∙◌, subst, arith, rules}
+use Rattle.std.proofs.Common.{◌+◌, drop, Option, refl, sym, subst}
 use Rattle.std.proofs.lemmas.List.{drop_all}
 use Rattle.ossl_state.specs.declared.call.Call.{Call}
-use Rattle.ossl_state.specs.declared.call.Reply.{Reply}
-use Rattle.ossl_commands.specs.declared.command.Line.{Line}
-use Rattle.ossl_script.specs.declared.stage.Stage.{Stage}
-use Rattle.ossl_script.specs.Caller.{Standing}
 use Rattle.ossl_script.specs.Given.{content_by}
-use Rattle.ossl_script.specs.Progress.{Answered, Arrives, Asked, Ready, Stands, StandsAt, Steps}
-use Rattle.ossl_script.proofs.ProgressLaws.{arrived, first_left, here_of, if_ok, last_reply}
+use Rattle.ossl_script.specs.Progress.{Steps}
+use Rattle.ossl_script.proofs.ProgressLaws.{arrived, here_of}
 use Rattle.ossl_script.proofs.progress.next_line.Goals as goal
 
 pub returns-in-Some-2 : goal.returns-in-Some-2

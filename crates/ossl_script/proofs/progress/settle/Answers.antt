@@ -1,4 +1,4 @@
-use Rattle.std.proofs.Common.{◌≡◌, ℕ, ◌+◌, List, [], ◌∷◌, ◌++◌, Some, None, refl, sym, ap, ◌∙◌, subst}
+use Rattle.std.proofs.Common.{ℕ, ◌+◌, List, [], ◌∷◌, ◌++◌, Some, None, refl, sym, ap, ◌∙◌, subst}
 use Rattle.ossl_script.specs.declared.caller.LineResult.{LineResult}
 use Rattle.ossl_script.specs.Outcome.{outcome_text}
 use Rattle.ossl_script.specs.declared.progress.Progress.{Progress}

@@ -1,22 +1,18 @@
-use Rattle.std.proofs.Common.{◌≡◌, ℕ, List, [], ◌++◌, None, Some, Option, Result, Ok, Err, refl, sym, ap, ◌∙◌, subst}
+use Rattle.std.proofs.Common.{ℕ, List, Some, Result, Err, refl, sym, ap, ◌∙◌, subst}
 use Rattle.ossl_script.specs.declared.bound.Bound.TheVariants as kept
 use Rattle.ossl_script.specs.declared.checks.Halt.{Halt}
 use Rattle.ossl_script.specs.declared.checks.Halt.TheVariants as halts
 use Rattle.ossl_script.specs.declared.outcome.Outcome.{Outcome}
-use Rattle.ossl_script.specs.declared.outcome.Outcome.TheVariants.{Done}
-use Rattle.ossl_script.specs.Bindings.{Binding, Bindings, Operating, bind}
-use Rattle.ossl_script.specs.Bindings.Binding.{running, finished}
+use Rattle.ossl_script.specs.Bindings.{Bindings, Operating, bind}
+use Rattle.ossl_script.specs.Bindings.Binding.{finished}
 use Rattle.ossl_script.specs.Course.{Course, by_running, uses_running}
 use Rattle.ossl_script.specs.Course.Course.{said}
-use Rattle.ossl_script.specs.Given.{content_by, fed_by}
-use Rattle.ossl_op.specs.Running.{Runs}
 use Rattle.ossl_op.specs.Standard.{standard_result}
-use Rattle.ossl_script.specs.declared.bound.Running.{Running}
 use Rattle.ossl_script.specs.Outcome.{finished_outcome}
 use Rattle.ossl_script.specs.Names.{Names, Rebinds, work_of}
 use Rattle.ossl_script.specs.Stages.{TakesRunning, Tells}
 use Rattle.ossl_script.proofs.CheckLaws.{handed}
-use Rattle.ossl_script.proofs.NameLaws.{agree_bound, rebinds_twice, running_at, stood_at}
+use Rattle.ossl_script.proofs.NameLaws.{agree_bound, rebinds_twice, stood_at}
 use Rattle.ossl_script.proofs.running.finish.Goals as goal
 
 -- where no operation runs, the command halts

@@ -1,4 +1,4 @@
-use Rattle.std.proofs.Common.{◌≡◌, true, false, ℕ, ◌<◌, ◌≤◌, List, length, get_or, leb, leb-true, sym, ap, ◌∙◌, subst, arith, rules}
+use Rattle.std.proofs.Common.{true, ◌<◌, ◌≤◌, List, length, get_or, leb, leb-true, sym, ap, ◌∙◌, subst, arith, rules}
 use Rattle.std.proofs.lemmas.Bool.{leb-false}
 use Rattle.std.proofs.lemmas.List.Sorted.{IsNonDecreasingBy-insert, IsPartitionPoint-from_clause, IsPartitionedBy-leb}
 use Rattle.ossl_script.specs.declared.tokens.Place.{Place}

@@ -1,4 +1,4 @@
-use Rattle.std.proofs.Common.{◌≡◌, ℕ, List, None, Some, Option, sym, ap, ◌∙◌}
+use Rattle.std.proofs.Common.{◌≡◌, Option, sym, ap, ◌∙◌}
 use Rattle.ossl_script.specs.declared.held.Held.{Held}
 use Rattle.ossl_state.specs.declared.call.Call.{Call}
 use Rattle.ossl_script.specs.Held.{held_after, left_by, with_handed}

@@ -1,4 +1,4 @@
-use Rattle.std.proofs.Common.{◌≡◌, ap, ◌∙◌}
+use Rattle.std.proofs.Common.{ap, ◌∙◌}
 use Rattle.ossl_script.specs.Stages.{whole_of}
 use Rattle.ossl_script.specs.Whole.{after_inner}
 use Rattle.ossl_script.proofs.whole.fetched_inner.Goals as goal

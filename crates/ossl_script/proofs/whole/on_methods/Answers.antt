@@ -1,4 +1,4 @@
-use Rattle.std.proofs.Common.{◌≡◌, ℕ, List, sym, ap, ◌∙◌}
+use Rattle.std.proofs.Common.{ℕ, List, sym, ap, ◌∙◌}
 use Rattle.ossl_op.specs.declared.params.BeginRefused.{BeginRefused}
 use Rattle.ossl_script.specs.Course.{Course}
 use Rattle.ossl_script.specs.declared.outcome.Outcome.TheVariants.{NotBegun}

@@ -1,4 +1,4 @@
-use Rattle.std.proofs.Common.{◌≡◌, false, List, None, refl, ap, ◌∙◌}
+use Rattle.std.proofs.Common.{false, List, None, refl, ap, ◌∙◌}
 use Rattle.ossl_commands.specs.declared.command.Line.{Line}
 use Rattle.ossl_script.specs.declared.script_caller.ScriptCaller.TheInside.{Inside}
 use Rattle.ossl_script.specs.Caller.{lines_of}

@@ -1,9 +1,10 @@
 use Rattle.std.proofs.Common.{◌≡◌, ◌<◌, false, sym, ap, ◌∙◌, subst}
-use Rattle.std.specs.Prelude.{IfSome, vec_capacity, vec_len}
+use Rattle.std.specs.Prelude.{IfSome, option_map, vec_capacity, vec_len}
 use Rattle.ossl_script.specs.declared.caller.Next.{Next}
 use Rattle.ossl_script.specs.declared.script_caller.ScriptCaller.TheInside.{Inside}
 use Rattle.ossl_script.specs.Caller.{Standing, call_in}
 use Rattle.ossl_script.specs.Given.{content_by}
+use Rattle.ossl_script.specs.Held.{without_texts}
 use Rattle.ossl_script.specs.Progress.{Arrives, Stands}
 use Rattle.ossl_script.specs.View.{GoesOn, ScriptCallerView, next_of, told}
 use Rattle.ossl_script.specs.Work.{view_of}
@@ -34,7 +35,7 @@ invariant_of-self c =
     (if_ok_at (λ (n : Next). (standing : Standing) → Stands (content_by contents) lines s.replies.items s.progress standing → Arrives (content_by contents) lines new.progress standing n)
     result next c.in-Ok.is ensures.arrives) in
     works_told s new.progress new.replies new.places new.asked c.self.invariant ensures.replies ensures.places c.is_end-self-inside.result next
-    (if_ok_at (λ (n : Next). new.asked ≡ call_in n) result next c.in-Ok.is ensures.asked) c.is_end-self-inside.ensures.end
+    (if_ok_at (λ (n : Next). new.asked ≡ option_map without_texts (call_in n)) result next c.in-Ok.is ensures.asked) c.is_end-self-inside.ensures.end
     (on_ok_at (IfSome new.asked (λ call. vec_len new.places < vec_capacity new.places)) result next c.in-Ok.is ensures.room_for_token)
     (on_ok_at (IfSome new.asked (λ call. vec_len new.replies < vec_capacity new.replies)) result next c.in-Ok.is ensures.room_for_reply)
     arrives
@@ -64,5 +65,5 @@ returns-in-Ok-clause-told c =
     let after : Inside = record s { progress = new.progress; replies = new.replies; places = new.places; asked = new.asked; ended = c.is_end-self-inside.result } in
     if_ok_from (λ (n : Next). view_of after ≡ told n c.args.self.now) result next c.in-Ok.is
     (view_told s new.progress new.replies new.places new.asked c.self.invariant ensures.replies ensures.places c.is_end-self-inside.result next
-    (if_ok_at (λ (n : Next). new.asked ≡ call_in n) result next c.in-Ok.is ensures.asked) c.is_end-self-inside.ensures.end
+    (if_ok_at (λ (n : Next). new.asked ≡ option_map without_texts (call_in n)) result next c.in-Ok.is ensures.asked) c.is_end-self-inside.ensures.end
     ∙ ap (λ (v : ScriptCallerView). told next v) c.self.view_is)

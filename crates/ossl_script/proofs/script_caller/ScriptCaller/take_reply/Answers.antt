@@ -1,4 +1,4 @@
-use Rattle.std.proofs.Common.{◌≡◌, true, sym, ap, ◌∙◌, subst}
+use Rattle.std.proofs.Common.{true, sym, ap, ◌∙◌, subst}
 use Rattle.ossl_script.specs.View.{GoesOn, ScriptCallerView, answered}
 use Rattle.ossl_script.proofs.WorkLaws.{room_for_reply, room_for_token, view_after_reply, works_after_reply}
 use Rattle.ossl_script.proofs.script_caller.ScriptCaller.take_reply.Goals as goal
