@@ -8,8 +8,8 @@ use std::io;
 use std::io::ErrorKind;
 
 /// The words after the program's name, of the arguments that `std::env::args` gives. An argument that is not text is
-/// no word of a program's, so none are given then. Which words were given no clause says: std's iterator tells it to
-/// its own crates alone.
+/// no word of a program's, so none are given then. Which words else were given no clause says, since none of
+/// `std::env::args` does.
 pub fn words(alloc: Global, arguments: io::Result<Args>) -> Result<Vec<String>, AllocError>
     ensures none { IfErr arguments (λ error. IfOk result (λ words. words.items ≡ [])) }
 {

@@ -2,7 +2,8 @@
 use Rattle.std.specs.Prelude.{ℕ, nat_lt, Bool, not, if◌then◌else◌, Option, Some, None, List, [], ◌∷◌, filter, map}
 use Rattle.std.specs.List.{list_any}
 use Rattle.ossl_state.specs.declared.call.Call.{Call}
-use Rattle.ossl_state.specs.declared.call.Call.TheVariants.{Load, Unload, SetDefault, Fetch, UpRef, Free, NewCtx, FreeCtx}
+use Rattle.ossl_state.specs.declared.call.Call.TheVariants.{Load, Unload, SetDefault, Fetch}
+use Rattle.ossl_state.specs.declared.call.Call.TheVariants.{UpRef, Free, NewCtx, FreeCtx}
 use Rattle.ossl_state.specs.declared.call.Reply.{Reply}
 use Rattle.ossl_state.specs.declared.call.Reply.TheVariants.{Loaded, Fetched, Made, Done}
 use Rattle.ossl_state.specs.Tokens.{Token, gives_up_by}

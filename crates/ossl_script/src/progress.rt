@@ -181,9 +181,10 @@ pub fn go_on_with_room(
 {
     let next = go_on(alloc, progress, contents, lines, replies.as_slice())?;
     if let Next::Call { call, .. } = &next {
+        let kept = without_texts(alloc, call)?;
         replies.reserve(1)?;
         places.reserve(1)?;
-        *asked = Some(without_texts(alloc, call));
+        *asked = Some(kept);
     }
     Ok(next)
 }

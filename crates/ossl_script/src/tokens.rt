@@ -1,7 +1,7 @@
 //! The tokens that a caller holds, in a list that ascends: a look-up takes as many steps as the logarithm of its
 //! length.
 
-ghost use Rattle.std.specs.Prelude.{◌≡◌, ◌<◌, vec_capacity, vec_len};
+ghost use Rattle.std.specs.Prelude.{◌≡◌, ◌<◌, IfOk, vec_capacity, vec_len};
 ghost use Rattle.ossl_state.specs.declared.call.Reply.{Reply as TheReply};
 ghost use Rattle.ossl_script.specs.Held.{give_back_call, held_after, left_by, with_token, without_texts};
 ghost use Rattle.ossl_script.specs.Places.{Ascends, Takes, held_in};
@@ -10,7 +10,7 @@ use crate::held::{Held, TokenKind};
 use ossl_base::text::Text;
 use ossl_property::Query;
 use ossl_state::{Call, Reply};
-use std::alloc::Global;
+use std::alloc::{AllocError, Global};
 
 /// A token that was handed out, and whether it is still held.
 #[derive(Clone, Copy, Debug, PartialEq, Eq)]
@@ -56,10 +56,10 @@ fn give_up(places: &mut Vec<Place>, token: Held)
 }
 
 /// A call without its texts: as much of it as the tokens turn on.
-pub fn without_texts(alloc: Global, call: &Call) -> Call
-    ensures { result ≡ without_texts call.now }
+pub fn without_texts(alloc: Global, call: &Call) -> Result<Call, AllocError>
+    ensures { IfOk result (λ kept. kept ≡ without_texts call.now) }
 {
-    match call {
+    Ok(match call {
         Call::Load { lib, retain, .. } => Call::Load {
             lib: *lib,
             name: Text::of(Vec::new(alloc)),
@@ -75,21 +75,8 @@ pub fn without_texts(alloc: Global, call: &Call) -> Call
             name: Text::of(Vec::new(alloc)),
             query: Query::empty(alloc),
         },
-        Call::Unload { token } => Call::Unload { token: *token },
-        Call::UpRef { handle } => Call::UpRef { handle: *handle },
-        Call::Free { handle } => Call::Free { handle: *handle },
-        Call::NewCtx {
-            handle,
-            inner,
-            key_len,
-        } => Call::NewCtx {
-            handle: *handle,
-            inner: *inner,
-            key_len: *key_len,
-        },
-        Call::FreeCtx { handle } => Call::FreeCtx { handle: *handle },
-        Call::CloseLib { lib } => Call::CloseLib { lib: *lib },
-    }
+        call => call.copy(alloc)?,
+    })
 }
 
 /// Holds what a call with its reply leaves. There is room for what it hands out.
