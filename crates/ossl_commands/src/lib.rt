@@ -24,4 +24,5 @@ mod word;
 pub use command::{Argument, Arguments, Command, Data, Line};
 pub use kind::{LineKind, ScriptRefused};
 pub use limit::Limit;
+pub use own::OwnLines;
 pub use script::Script;

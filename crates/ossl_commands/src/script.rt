@@ -1,7 +1,6 @@
 //! A batch text as its commands.
 
-ghost use Rattle.std.specs.Prelude.{◌≡◌, ℕ, ◌+◌, List, ◌∷◌, IfOk, IfErr, OnOk, slice_get};
-ghost use Rattle.std.specs.Option.{option_copied};
+ghost use Rattle.std.specs.Prelude.{◌≡◌, ℕ, ◌+◌, List, ◌∷◌, IfOk, IfErr, OnOk};
 ghost use Rattle.ossl_commands.specs.Counts.{callers_of, contexts_of, line_count, lines_of};
 ghost use Rattle.ossl_commands.specs.Fits.{passed_limit};
 ghost use Rattle.ossl_commands.specs.Judging.{IsRefusal, commands_from, commands_of, continued};
@@ -12,20 +11,21 @@ use crate::files::NamedFiles;
 use crate::judge::judge;
 use crate::kind::ScriptRefused;
 use crate::limit::Limit;
-use crate::own::{own_places, place_in};
+use crate::own::{OwnLines, copy_places, own_places};
 use crate::text::{cut_line, is_skipped};
 use ossl_base::text::Text;
-use std::alloc::Global;
+use std::alloc::{AllocError, Global};
 use std::collections::BTreeMap;
 use std::marker::Model;
+use std::sync::Arc;
 
 /// The commands that a batch text says. Each is kept once, without the text beside it.
 #[derive(Drop)]
 pub struct Script {
     lines: u64,
-    commands: Vec<Line>,
+    commands: Arc<Vec<Line>, Global>,
     files: Vec<Text>,
-    own: BTreeMap<u32, Vec<u64>>,
+    own: BTreeMap<u64, Vec<u64>>,
 }
 
 impl Model for Script {
@@ -35,9 +35,9 @@ impl Model for Script {
 
     ghost Value = { ScriptView };
 
-    ghost view = { λ s. record { lines = s.lines; commands = s.commands.items; files = s.files.items } };
+    ghost view = { λ s. record { lines = s.lines; commands = s.commands.value.items; files = s.files.items } };
 
-    ghost invariant = { λ s. (caller : ℕ) → places_in s.own caller ≡ own_places caller 0 s.commands.items };
+    ghost invariant = { λ s. (caller : ℕ) → places_in s.own caller ≡ own_places caller 0 s.commands.value.items };
 }
 
 impl Script {
@@ -62,7 +62,7 @@ impl Script {
         let files = files.into_names();
         Ok(Script {
             lines: number,
-            commands,
+            commands: Arc::new(alloc, commands)?,
             files,
             own,
         })
@@ -111,14 +111,13 @@ impl Script {
         passed_limit(self.lines, self.commands.as_slice(), lengths)
     }
 
-    /// A caller's command at this place among its own, in the order of the text.
-    pub fn own_line(&self, caller: u32, index: u64) -> Option<&Line>
-        ensures line { option_copied result ≡ slice_get (lines_of caller self.now.commands) index }
+    /// The commands of a caller, in the order of the text: shared with the script, and found by the caller's number
+    /// without a look at the other lines.
+    pub fn own_lines(&self, alloc: Global, caller: u64) -> Result<OwnLines, AllocError>
+        ensures lines { IfOk result (λ own. own ≡ lines_of caller self.now.commands) }
     {
-        match place_in(&self.own, caller, index) {
-            Some(place) => line_at(self.commands.as_slice(), place),
-            None => None,
-        }
+        let places = copy_places(alloc, &self.own, caller)?;
+        Ok(OwnLines::of(caller, self.commands.clone()?, places))
     }
 }
 
@@ -150,10 +149,4 @@ fn read_line(
         }
         Err(refused) => Err(refused.at(number)),
     }
-}
-
-fn line_at(lines: &[Line], place: u64) -> Option<&Line>
-    ensures { option_copied result ≡ slice_get lines.now place }
-{
-    lines.get(place as usize)
 }

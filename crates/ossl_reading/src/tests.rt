@@ -138,9 +138,10 @@ fn a_batch_is_read(rt: HostRuntime) -> Result<(), Fail> {
         script.files().first().ok_or("no file")?.as_slice(),
         b"b".as_slice()
     );
-    assert_eq!(rt; script.own_line(1, 1).ok_or("no line")?.number, 6);
-    assert!(rt; script.own_line(1, 2).is_none());
-    assert!(rt; script.own_line(3, 0).is_none());
+    let own = script.own_lines(alloc, 1)?;
+    assert_eq!(rt; own.get(1).ok_or("no line")?.number, 6);
+    assert!(rt; own.get(2).is_none());
+    assert!(rt; script.own_lines(alloc, 3)?.get(0).is_none());
     assert_eq!(rt; script.fits(&[]), None);
     assert_eq!(rt; script.fits(&[0, 4_194_305]), Some(Limit::File));
     assert_eq!(rt; script.fits(&[2_097_153]), Some(Limit::Line));

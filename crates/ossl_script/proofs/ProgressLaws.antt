@@ -1,5 +1,5 @@
 -- How far a caller comes with its lines.
-use Rattle.std.proofs.Common.{◌≡◌, ℕ, zero, suc, ◌+◌, List, [], ◌∷◌, ◌++◌, drop, true, length, get_or, ltb, ◌-◌, arith, Some, None, Option, refl, sym, ap, ◌∙◌, subst, add-one}
+use Rattle.std.proofs.Common.{◌≡◌, ℕ, zero, suc, ◌+◌, List, [], ◌∷◌, ◌++◌, drop, length, get_or, ◌-◌, arith, Some, None, Option, refl, sym, ap, ◌∙◌, subst, add-one}
 use Rattle.ossl_state.specs.declared.call.Call.{Call}
 use Rattle.ossl_state.specs.declared.call.Reply.{Reply}
 use Rattle.ossl_commands.specs.declared.command.Line.{Line}
@@ -16,10 +16,9 @@ use Rattle.ossl_script.specs.Course.{Course}
 use Rattle.ossl_script.specs.Course.Course.{ask, said}
 use Rattle.ossl_script.specs.Given.{Content}
 use Rattle.ossl_script.specs.Names.{Agree, Names}
-use Rattle.std.specs.Prelude.{Result, Ok, Err, IfOk}
+use Rattle.std.specs.Prelude.{Result, Ok, Err, IfOk, slice_get}
 use Rattle.std.proofs.Math.Seq.{get_or-append_seam}
-use Rattle.std.proofs.lemmas.Bool.{ltb-true}
-use Rattle.std.proofs.lemmas.List.{drop_more, length-append}
+use Rattle.std.proofs.lemmas.List.{length-append}
 use Rattle.ossl_script.specs.declared.caller.Next.TheVariants as nexts
 use Rattle.ossl_script.specs.Commands.{course_of}
 use Rattle.ossl_script.specs.Progress.{Arrives, Moves, Ready, Settled, Steps, fed_in, from_here}
@@ -106,16 +105,28 @@ begins content lines progress standing line behind here ready =
     ready.stands ∙ ap (λ (left : List Line). from_here content standing.held progress.told.items ready.bindings left) here
 
 -- the line that stands at a place, before those behind it
-pub here_of : (lines : List Line) (i : ℕ) (line : Line) → ltb i (length lines) ≡ true → line ≡ get_or lines i line
-    → drop i lines ≡ line ∷ drop (i + 1) lines
-here_of lines i line within is = drop_more lines i line (ltb-true i (length lines) within) ∙ ap (λ (x : Line). x ∷ drop (i + 1) lines) (sym is)
+pub here_of : (lines : List Line) (i : ℕ) (line : Line) → Some line ≡ slice_get lines i → drop i lines ≡ line ∷ drop (i + 1) lines
+here_of lines i line is = at lines i is ∙ ap (λ n. line ∷ drop n lines) (sym (add-one i))
+  where
+    at : (lines : List Line) (i : ℕ) → Some line ≡ slice_get lines i → drop i lines ≡ line ∷ drop (suc i) lines
+    at [] i is = absurd cc
+    at (x ∷ xs) zero is = cc
+    at (x ∷ xs) (suc i) is = at xs i is
+
+-- where no line stands, none is left
+pub none_left : (lines : List Line) (i : ℕ) → None ≡ slice_get lines i → drop i lines ≡ []
+none_left [] zero is = refl
+none_left [] (suc i) is = refl
+none_left (x ∷ xs) zero is = absurd cc
+none_left (x ∷ xs) (suc i) is = none_left xs i is
 
 -- what stands at a place is the first of what is left there
-pub first_left : (i : ℕ) (lines : List Line) (line : Line) (behind : List Line) → drop i lines ≡ line ∷ behind → (d : Line) → get_or lines i d ≡ line
-first_left zero (x ∷ xs) line behind h d = cc
-first_left zero [] line behind h d = absurd cc
-first_left (suc i) (x ∷ xs) line behind h d = first_left i xs line behind h d
-first_left (suc i) [] line behind h d = absurd cc
+pub first_left : (i : ℕ) (lines : List Line) (first line : Line) (behind : List Line) → drop i lines ≡ first ∷ behind
+    → Some line ≡ slice_get lines i → line ≡ first
+first_left zero (x ∷ xs) first line behind h is = cc
+first_left zero [] first line behind h is = absurd cc
+first_left (suc i) (x ∷ xs) first line behind h is = first_left i xs first line behind h is
+first_left (suc i) [] first line behind h is = absurd cc
 
 -- the last of these replies
 pub last_reply : (replies earlier : List Reply) (reply : Reply) → replies ≡ earlier ++ reply ∷ [] → (d : Reply) → get_or replies (length replies - 1) d ≡ reply

@@ -204,22 +204,22 @@ works_with_places s places gone works ascends held room = record {
 -- after a reply
 
 pub standing_answered : (s : Inside) (replies : List Reply) (reply : Reply) → replies ≡ s.replies.items ++ reply ∷ []
-    → stands (content_by s.contents.items) (lines_of s.caller s.lines.items) replies ≡ after_reply (content_by s.contents.items) (standing_in s) reply
+    → stands (content_by s.contents.items) (lines_of s.caller s.lines) replies ≡ after_reply (content_by s.contents.items) (standing_in s) reply
 standing_answered s replies reply taken =
-    ap (λ (rs : List Reply). stands (content_by s.contents.items) (lines_of s.caller s.lines.items) rs) taken
-    ∙ goes_by_reply s.lines.items s.contents.items s.caller s.replies.items reply
+    ap (λ (rs : List Reply). stands (content_by s.contents.items) (lines_of s.caller s.lines) rs) taken
+    ∙ goes_by_reply s.lines s.contents.items s.caller s.replies.items reply
 
 module _ (s : Inside) (asked : Option Call) (places : Vec Place Global) (replies : Vec Reply Global) (call : Call) (reply : Reply)
     (works : Works s) (unrefused : s.refused ≡ false) (waits : s.asked ≡ Some call) (none : given_in s ≡ [])
     (idle : asked ≡ None) (ascends : Ascends places.items) (held : held_in places.items ≡ held_after call reply (held_in s.places.items))
     (taken : replies.items ≡ s.replies.items ++ reply ∷ []) where
   abbrev later : Standing
-  later = stands (content_by s.contents.items) (lines_of s.caller s.lines.items) replies.items
+  later = stands (content_by s.contents.items) (lines_of s.caller s.lines) replies.items
 
   left : later.held ≡ held_in places.items
   left =
       let w = works.waits call unrefused waits in
-      held_then (content_by s.contents.items) s.lines.items s.progress (standing_in s) later w.line w.call reply w.asked (standing_answered s replies.items reply taken)
+      held_then (content_by s.contents.items) s.lines s.progress (standing_in s) later w.line w.call reply w.asked (standing_answered s replies.items reply taken)
       ∙ ap (λ (all : List Held). held_after w.call reply all) (all_left_of (standing_in s).held works.holds.gone (held_in s.places.items) works.holds.held none)
       ∙ held_without w.call reply (held_in s.places.items)
       ∙ ap (λ (kept : Call). held_after kept reply (held_in s.places.items)) (sym w.same)
@@ -234,10 +234,10 @@ module _ (s : Inside) (asked : Option Call) (places : Vec Place Global) (replies
         holds = record { ascends = ascends; gone = []; held = left };
         waits = λ other unrefused is. absurd (none_some other (sym idle ∙ is));
         between = λ unrefused going is. record {
-          stands = subst (λ (rs : List Reply). Stands content s.lines.items rs s.progress later) (sym taken)
-              (stands_then content s.lines.items s.progress (standing_in s) later w.line w.call reply w.asked step s.replies.items);
-          line = subst (λ (rs : List Reply). HasLine s.progress s.lines.items rs) (sym taken)
-              (line_then content s.lines.items s.progress (standing_in s) later w.line w.call reply w.asked step s.replies.items);
+          stands = subst (λ (rs : List Reply). Stands content s.lines rs s.progress later) (sym taken)
+              (stands_then content s.lines s.progress (standing_in s) later w.line w.call reply w.asked step s.replies.items);
+          line = subst (λ (rs : List Reply). HasLine s.progress s.lines rs) (sym taken)
+              (line_then content s.lines s.progress (standing_in s) later w.line w.call reply w.asked step s.replies.items);
         };
         done = λ ends. absurd (none_some call (sym (works.done ends).idle ∙ waits));
       }
@@ -256,10 +256,10 @@ none_kept asked other none some = none_some other (sym none ∙ some)
 module _ (s : Inside) (progress : Progress) (replies : Vec Reply Global) (places : Vec Place Global) (asked : Option Call) (works : Works s)
     (same_replies : replies.items ≡ s.replies.items) (same_places : places.items ≡ s.places.items) where
   abbrev now : Standing
-  now = stands (content_by s.contents.items) (lines_of s.caller s.lines.items) replies.items
+  now = stands (content_by s.contents.items) (lines_of s.caller s.lines) replies.items
 
   same_standing : now ≡ standing_in s
-  same_standing = ap (λ (rs : List Reply). stands (content_by s.contents.items) (lines_of s.caller s.lines.items) rs) same_replies
+  same_standing = ap (λ (rs : List Reply). stands (content_by s.contents.items) (lines_of s.caller s.lines) rs) same_replies
 
   same_given : map give_back_call (spent now.held (held_in places.items)) ≡ given_in s
   same_given =
@@ -291,7 +291,7 @@ module _ (s : Inside) (progress : Progress) (replies : Vec Reply Global) (places
 
   pub works_told : (ended : Bool) (next : Next) → asked ≡ option_map without_texts (call_in next) → ended ≡ is_end next
       → IfSome asked (λ call. vec_len places < vec_capacity places) → IfSome asked (λ call. vec_len replies < vec_capacity replies)
-      → Arrives (content_by s.contents.items) s.lines.items progress (standing_in s) next
+      → Arrives (content_by s.contents.items) s.lines progress (standing_in s) next
       → Works (record s { progress = progress; replies = replies; places = places; asked = asked; ended = ended })
   works_told ended (nexts.Call number call) asks ends place reply arrives = record {
     holds = record { ascends = still_ascends; gone = works.holds.gone; held = still_held };
@@ -300,7 +300,7 @@ module _ (s : Inside) (progress : Progress) (replies : Vec Reply Global) (places
           line = arrives.0;
           call = call;
           same = sym (some_same (without_texts call) other (sym asks ∙ is));
-          asked = subst (λ (standing : Standing). Asked (content_by s.contents.items) s.lines.items progress standing arrives.0 call) (sym same_standing) arrives.2;
+          asked = subst (λ (standing : Standing). Asked (content_by s.contents.items) s.lines progress standing arrives.0 call) (sym same_standing) arrives.2;
           place = subst (λ (o : Option Call). IfSome o (λ one. vec_len places < vec_capacity places)) is place;
           reply = subst (λ (o : Option Call). IfSome o (λ one. vec_len replies < vec_capacity replies)) is reply;
         };
@@ -327,7 +327,7 @@ module _ (s : Inside) (progress : Progress) (replies : Vec Reply Global) (places
 
 -- the call that comes next is the one that is meant
 pub next_told : (s : Inside) (progress : Progress) (next : Next)
-    → Arrives (content_by s.contents.items) s.lines.items progress (standing_in s) next → next ≡ next_of (view_of s)
+    → Arrives (content_by s.contents.items) s.lines progress (standing_in s) next → next ≡ next_of (view_of s)
 next_told s progress (nexts.Call number call) arrives =
     ap (λ (n : ℕ). nexts.Call n call) (sym arrives.1) ∙ sym (ap (λ (place : At). next_at place) arrives.2.stands)
 next_told s progress nexts.End arrives = sym (ap (λ (place : At). next_at place) arrives.1)
@@ -364,17 +364,17 @@ agree_empty names empty = record { at = λ name. subst (λ (o : Option Bound). S
 ascends_none : (places : List Place) → places ≡ [] → Ascends places
 ascends_none places none = subst (λ (ps : List Place). Ascends ps) (sym none) (λ i j d below within. absurd (omega (arith, within)))
 
-module _ (s : Inside) (all : List Line) (lines : s.lines.items ≡ lines_of s.caller all)
+module _ (s : Inside) (all : List Line) (lines : s.lines ≡ lines_of s.caller all)
     (replies : s.replies.items ≡ []) (places : s.places.items ≡ []) where
-  first : standing_in s ≡ opening (content_by s.contents.items) s.lines.items
+  first : standing_in s ≡ opening (content_by s.contents.items) s.lines
   first =
-      ap (λ (rs : List Reply). stands (content_by s.contents.items) (lines_of s.caller s.lines.items) rs) replies
+      ap (λ (rs : List Reply). stands (content_by s.contents.items) (lines_of s.caller s.lines) rs) replies
       ∙ ap (λ (own : List Line). opening (content_by s.contents.items) own)
       (ap (λ (own : List Line). lines_of s.caller own) lines ∙ own_twice s.caller all ∙ sym lines)
 
   none_held : (standing_in s).held ≡ held_in s.places.items
   none_held =
-      ap (λ (standing : Standing). standing.held) first ∙ opening-held (content_by s.contents.items) s.lines.items
+      ap (λ (standing : Standing). standing.held) first ∙ opening-held (content_by s.contents.items) s.lines
       ∙ ap (λ (ps : List Place). held_in ps) (sym places)
 
   pub works_first : s.progress.told.items ≡ [] → s.progress.names.entries ≡ [] → s.progress.stage ≡ None → s.progress.line ≡ 0 → s.asked ≡ None → s.ended ≡ false
@@ -383,14 +383,14 @@ module _ (s : Inside) (all : List Line) (lines : s.lines.items ≡ lines_of s.ca
     holds = record { ascends = ascends_none s.places.items places; gone = []; held = none_held };
     waits = λ call unrefused is. absurd (none_some call (sym idle ∙ is));
     between = λ unrefused going_on is. record {
-      stands = subst (λ (at : Option Stage). StandsAt (content_by s.contents.items) s.lines.items s.replies.items s.progress (standing_in s) at) (sym stage)
-          (ready_first (content_by s.contents.items) s.lines.items s.progress (standing_in s) first (agree_empty s.progress.names names) stage told line);
-      line = subst (λ (at : Option Stage). IfSome at (λ one. (s.progress.line < length s.lines.items) × (0 < length s.replies.items))) (sym stage) tt;
+      stands = subst (λ (at : Option Stage). StandsAt (content_by s.contents.items) s.lines s.replies.items s.progress (standing_in s) at) (sym stage)
+          (ready_first (content_by s.contents.items) s.lines s.progress (standing_in s) first (agree_empty s.progress.names names) stage told line);
+      line = subst (λ (at : Option Stage). IfSome at (λ one. (s.progress.line < length s.lines) × (0 < length s.replies.items))) (sym stage) tt;
     };
     done = λ ends. absurd (true≢false (sym ends ∙ going));
   }
 
-  pub view_fresh : s.asked ≡ None → s.ended ≡ false → s.refused ≡ false → view_of s ≡ fresh s.lines.items s.contents.items s.caller
+  pub view_fresh : s.asked ≡ None → s.ended ≡ false → s.refused ≡ false → view_of s ≡ fresh s.lines s.contents.items s.caller
   view_fresh idle going unrefused =
       let given : given_in s ≡ [] = none_given (standing_in s).held (held_in s.places.items) none_held in
       let waiting : is_some s.asked ≡ false = ap (λ (o : Option Call). is_some o) idle in
@@ -441,9 +441,9 @@ module _ (s : Inside) (asked : Option Call) (places : Vec Place Global) (replies
 
 -- it comes from where the caller stands
 pub arrives_here : (s : Inside) (progress : Progress) (contents : List (List ℕ)) (lines : List Line) (next : Next)
-    → Works s → GoesOn (view_of s) false → s.ended ≡ false → contents ≡ s.contents.items → lines ≡ s.lines.items
+    → Works s → GoesOn (view_of s) false → s.ended ≡ false → contents ≡ s.contents.items → lines ≡ s.lines
     → ((standing : Standing) → Stands (content_by contents) lines s.replies.items s.progress standing → Arrives (content_by contents) lines progress standing next)
-    → Arrives (content_by s.contents.items) s.lines.items progress (standing_in s) next
+    → Arrives (content_by s.contents.items) s.lines progress (standing_in s) next
 arrives_here s progress contents lines next works goes_on going same_contents same_lines arrives =
     let b = works.between goes_on.unrefused going (asked_none s.asked goes_on.waiting) in
     subst (λ (ls : List Line). Arrives (content_by s.contents.items) ls progress (standing_in s) next) same_lines

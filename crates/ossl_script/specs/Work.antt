@@ -15,7 +15,7 @@ use Rattle.ossl_script.specs.View.{ScriptCallerView}
 
 -- where the caller stands by the replies that it took
 abbrev pub standing_in : Inside → Standing
-standing_in s = stands (content_by s.contents.items) (lines_of s.caller s.lines.items) s.replies.items
+standing_in s = stands (content_by s.contents.items) (lines_of s.caller s.lines) s.replies.items
 
 -- the first of these tokens, but for the last that are left
 abbrev pub spent : List Held → List Held → List Held
@@ -23,7 +23,7 @@ spent all left = take (length all - length left) all
 
 abbrev pub view_of : Inside → ScriptCallerView
 view_of s = record {
-  lines = s.lines.items;
+  lines = s.lines;
   contents = s.contents.items;
   caller = s.caller;
   replies = s.replies.items;
@@ -44,14 +44,14 @@ pub record Waits (s : Inside) (kept : Call) : Type 0 where
   pub line : Line
   pub call : Call
   pub same : kept ≡ without_texts call
-  pub asked : Asked (content_by s.contents.items) s.lines.items s.progress (standing_in s) line call
+  pub asked : Asked (content_by s.contents.items) s.lines s.progress (standing_in s) line call
   pub place : vec_len s.places < vec_capacity s.places
   pub reply : vec_len s.replies < vec_capacity s.replies
 
 -- no call waits
 pub record Between (s : Inside) : Type 0 where
-  pub stands : Stands (content_by s.contents.items) s.lines.items s.replies.items s.progress (standing_in s)
-  pub line : HasLine s.progress s.lines.items s.replies.items
+  pub stands : Stands (content_by s.contents.items) s.lines s.replies.items s.progress (standing_in s)
+  pub line : HasLine s.progress s.lines s.replies.items
 
 -- the lines are done
 pub record AtEnd (s : Inside) : Type 0 where

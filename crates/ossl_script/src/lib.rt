@@ -8,7 +8,6 @@ mod bound;
 mod caller;
 mod checks;
 mod commands;
-mod copies;
 mod feeding;
 mod held;
 mod options;

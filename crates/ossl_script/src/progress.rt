@@ -17,7 +17,7 @@ use crate::resume::resume;
 use crate::stage::{Course, Stage};
 use crate::tokens::{Place, take_answer, without_texts};
 use ossl_base::text::{Bytes, Text};
-use ossl_commands::Line;
+use ossl_commands::{Line, OwnLines};
 use ossl_state::{Call, Reply};
 use std::alloc::{AllocError, Global};
 
@@ -113,7 +113,7 @@ fn next_line(
     alloc: Global,
     progress: &mut Progress,
     contents: &[Bytes],
-    lines: &[Line],
+    lines: &OwnLines,
 ) -> Result<Next, AllocError>
     ensures { IfOk result (λ next. (standing : Standing)
         → Ready (content_by contents.now) lines.now progress.old standing
@@ -135,7 +135,7 @@ pub fn go_on(
     alloc: Global,
     progress: &mut Progress,
     contents: &[Bytes],
-    lines: &[Line],
+    lines: &OwnLines,
     replies: &[Reply],
 ) -> Result<Next, AllocError>
     requires { HasLine progress.old lines.now replies.now }
@@ -146,7 +146,9 @@ pub fn go_on(
     let Some(stage) = progress.stage.take() else {
         return next_line(alloc, progress, contents, lines);
     };
-    let line = &lines[progress.line];
+    let Some(line) = lines.get(progress.line) else {
+        unreachable!()
+    };
     let reply = &replies[replies.len() - 1];
     match resume_line(alloc, progress, contents, line, stage, reply)? {
         Some(call) => Ok(Next::Call {
@@ -162,7 +164,7 @@ pub fn go_on_with_room(
     alloc: Global,
     progress: &mut Progress,
     contents: &[Bytes],
-    lines: &[Line],
+    lines: &OwnLines,
     replies: &mut Vec<Reply>,
     places: &mut Vec<Place>,
     asked: &mut Option<Call>,

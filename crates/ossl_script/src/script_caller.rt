@@ -9,16 +9,16 @@ ghost use Rattle.ossl_script.specs.Laws.{GoesByReply, ResultsNameNoToken};
 
 use crate::caller::{LineResult, Next};
 use crate::progress::{Progress, go_on_with_room, take_in};
-use crate::share::{own_contents, own_lines};
+use crate::share::own_contents;
 use crate::tokens::{Place, take_newest};
 use ossl_base::text::Bytes;
-use ossl_commands::{Line, Script};
+use ossl_commands::{OwnLines, Script};
 use ossl_state::{Call, Reply};
 use std::alloc::{AllocError, Global};
 use std::collections::BTreeMap;
 use std::marker::Model;
 
-/// A caller of a batch at work. It owns copies of its lines and of what the files hold that they name.
+/// A caller of a batch at work. It shares the lines of the batch, and owns copies of what the files hold.
 ///
 /// It asks for a call by `next_call`, takes the reply to it by `take_reply`, and so on to the end of its lines.
 /// Wherever it stops, by a refusal of memory too, `give_back` gives back the tokens that it holds.
@@ -26,7 +26,7 @@ use std::marker::Model;
 pub struct ScriptCaller {
     alloc: Global,
     caller: u64,
-    lines: Vec<Line>,
+    lines: OwnLines,
     contents: Vec<Bytes>,
     replies: Vec<Reply>,
     places: Vec<Place>,
@@ -61,7 +61,7 @@ impl ScriptCaller {
         ensures batch { IfOk result (SpeaksFor script.now.commands contents.now) }
         ensures alone { OwnLinesAlone }
     {
-        let lines = own_lines(alloc, script.commands(), caller)?;
+        let lines = script.own_lines(alloc, caller)?;
         let contents = own_contents(alloc, contents)?;
         Ok(ScriptCaller {
             alloc,
@@ -102,12 +102,11 @@ impl ScriptCaller {
             return Ok(Next::End);
         }
         let contents = self.contents.as_slice();
-        let lines = self.lines.as_slice();
         let next = go_on_with_room(
             self.alloc,
             &mut self.progress,
             contents,
-            lines,
+            &self.lines,
             &mut self.replies,
             &mut self.places,
             &mut self.asked,

@@ -1,7 +1,5 @@
-use Rattle.std.proofs.Common.{false, List, None, refl, ap, ◌∙◌}
-use Rattle.ossl_commands.specs.declared.command.Line.{Line}
+use Rattle.std.proofs.Common.{false, None, refl}
 use Rattle.ossl_script.specs.declared.script_caller.ScriptCaller.TheInside.{Inside}
-use Rattle.ossl_script.specs.Caller.{lines_of}
 use Rattle.ossl_script.specs.Work.{view_of}
 use Rattle.ossl_script.proofs.OwnLaws.{own_lines_alone}
 use Rattle.ossl_script.proofs.WorkLaws.{speaks, view_fresh, works_first}
@@ -28,7 +26,7 @@ invariant_of-result c =
       refused = false;
     } in
     works_first s c.args.script.now.commands
-    (c.in_ok-lines.ensures ∙ ap (λ (all : List Line). lines_of c.args.caller all) c.commands.ensures.commands)
+    c.in_ok-lines.ensures.lines
     c.new.ensures.items c.new-2.ensures.items c.new-3.ensures.items c.new-4.ensures.empty refl refl refl refl
 
 pub returns-clause-fresh : goal.returns-clause-fresh
@@ -46,7 +44,7 @@ returns-clause-fresh c =
       refused = false;
     } in
     view_fresh s c.args.script.now.commands
-    (c.in_ok-lines.ensures ∙ ap (λ (all : List Line). lines_of c.args.caller all) c.commands.ensures.commands)
+    c.in_ok-lines.ensures.lines
     c.new.ensures.items c.new-2.ensures.items refl refl refl
 
 pub returns-clause-batch : goal.returns-clause-batch
@@ -64,7 +62,7 @@ returns-clause-batch c =
       refused = false;
     } in
     speaks c.args.script.now.commands c.args.contents.now (view_of s)
-    (c.in_ok-lines.ensures ∙ ap (λ (all : List Line). lines_of c.args.caller all) c.commands.ensures.commands) c.in_ok-contents.ensures
+    c.in_ok-lines.ensures.lines c.in_ok-contents.ensures
 
 pub returns-clause-alone : goal.returns-clause-alone
 returns-clause-alone c = own_lines_alone

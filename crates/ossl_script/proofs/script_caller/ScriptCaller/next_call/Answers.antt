@@ -1,4 +1,4 @@
-use Rattle.std.proofs.Common.{◌≡◌, ◌<◌, false, sym, ap, ◌∙◌, subst}
+use Rattle.std.proofs.Common.{◌≡◌, ◌<◌, false, refl, sym, ap, ◌∙◌, subst}
 use Rattle.std.specs.Prelude.{IfSome, option_map, vec_capacity, vec_len}
 use Rattle.ossl_script.specs.declared.caller.Next.{Next}
 use Rattle.ossl_script.specs.declared.script_caller.ScriptCaller.TheInside.{Inside}
@@ -30,8 +30,8 @@ invariant_of-self c =
     let next : Next = c.in-Ok.next in
     let goes_on = subst (λ (v : ScriptCallerView). GoesOn v false) (sym c.self.view_is) c.requires in
     let contents = c.as_slice-contents.result.now in
-    let lines = c.as_slice-lines.result.now in
-    let arrives = arrives_here s new.progress contents lines next c.self.invariant goes_on c.if-self.false c.as_slice-contents.ensures.value c.as_slice-lines.ensures.value
+    let lines = s.lines in
+    let arrives = arrives_here s new.progress contents lines next c.self.invariant goes_on c.if-self.false c.as_slice-contents.ensures.value refl
     (if_ok_at (λ (n : Next). (standing : Standing) → Stands (content_by contents) lines s.replies.items s.progress standing → Arrives (content_by contents) lines new.progress standing n)
     result next c.in-Ok.is ensures.arrives) in
     works_told s new.progress new.replies new.places new.asked c.self.invariant ensures.replies ensures.places c.is_end-self-inside.result next
@@ -48,8 +48,8 @@ returns-in-Ok-clause-call c =
     let next : Next = c.in-Ok.next in
     let goes_on = subst (λ (v : ScriptCallerView). GoesOn v false) (sym c.self.view_is) c.requires in
     let contents = c.as_slice-contents.result.now in
-    let lines = c.as_slice-lines.result.now in
-    let arrives = arrives_here s new.progress contents lines next c.self.invariant goes_on c.if-self.false c.as_slice-contents.ensures.value c.as_slice-lines.ensures.value
+    let lines = s.lines in
+    let arrives = arrives_here s new.progress contents lines next c.self.invariant goes_on c.if-self.false c.as_slice-contents.ensures.value refl
     (if_ok_at (λ (n : Next). (standing : Standing) → Stands (content_by contents) lines s.replies.items s.progress standing → Arrives (content_by contents) lines new.progress standing n)
     result next c.in-Ok.is c.go_on_with_room-next.ensures.arrives) in
     if_ok_from (λ (n : Next). n ≡ next_of c.args.self.now) result next c.in-Ok.is
