@@ -18,10 +18,10 @@ use ossl_provider::Boxed;
 use ossl_rows::{Builtin, builtin};
 use ossl_worker::OpenGate;
 use std::alloc::{AllocError, Global};
-use std::env;
 use std::process::ExitCode;
 use std::sync::Wait;
 use std::thread::Threads;
+use std::{env, mem};
 
 /// The status for want of memory.
 const NO_MEMORY: u8 = 9;
@@ -42,7 +42,10 @@ fn answer<R: Threads + Wait + Sync, S: Source, F: Files, K: Sink>(
     let base: Boxed = Box::new(alloc, builtin(alloc, Builtin::Base)?)?;
     let catalogue = Vec::from_array(alloc, [default, legacy, fips, null, base])?;
     let outcome = batch(rt, alloc, words, source, files, sink, catalogue, &OpenGate);
-    Ok(outcome.status)
+    let status = outcome.status;
+    // The program ends here: what is left is not freed piece by piece.
+    mem::forget(outcome);
+    Ok(status)
 }
 
 /// Runs the program, and gives its status.

@@ -10,3 +10,4 @@ pub mod JudgingLaws
 pub mod AmountLaws
 pub mod ScriptLaws
 pub mod OwnLaws
+pub mod DataLaws

@@ -1,6 +1,7 @@
 //! Data as a word says it.
 
-ghost use Rattle.std.specs.Prelude.{◌≡◌, ◌++◌, IfOk, OnErr, OnOk, option_map, option_and_then, replicate};
+ghost use Rattle.std.specs.Prelude.{ℕ, ◌≡◌, ◌↔◌, Some, [], ◌∷◌, ◌++◌, IfOk, OnErr, OnOk, option_map};
+ghost use Rattle.std.specs.Prelude.{option_and_then, replicate};
 ghost use Rattle.ossl_commands.specs.Contents.{content_by, data_bytes};
 ghost use Rattle.ossl_commands.specs.Words.{cut_at, data_of, data_forms, hex_of, copies_of, looked_up, named};
 ghost use Rattle.ossl_commands.specs.Words.{number_of, plain, some_text};
@@ -32,22 +33,28 @@ fn digits(alloc: Global, text: &[u8]) -> Result<Option<Vec<u8>>, AllocError>
     }
 }
 
-/// As many copies of a byte as `N:HH` says.
-fn copies(alloc: Global, text: &[u8]) -> Result<Option<Data>, AllocError>
-    ensures { IfOk result (λ given.
-        given ≡ option_and_then (λ parts. copies_of (number_of parts.0) (hex_of parts.1)) (cut_at 58 text.now)) }
+/// The byte that two hexadecimal digits say.
+#[tactic(auto, using(crate::proofs::DataLaws::one_byte))]
+fn byte_of(text: &[u8]) -> Option<u8>
+    ensures { (byte : ℕ) → (result ≡ Some byte) ↔ (hex_of text.now ≡ Some (byte ∷ [])) }
 {
-    let Some((count, byte)) = cut_at(text, b':') else {
-        return Ok(None);
-    };
-    let bytes = digits(alloc, byte)?;
-    Ok(match (number(count), bytes) {
-        (Some(count), Some(bytes)) => match bytes.as_slice() {
-            [byte] => Some(Data::Copies { count, byte: *byte }),
-            _ => None,
-        },
-        _ => None,
-    })
+    let mut byte = [0u8; 1];
+    match hex::decode_to_slice(text, &mut byte) {
+        Ok(()) => Some(byte[0]),
+        Err(_) => None,
+    }
+}
+
+/// As many copies of a byte as `N:HH` says.
+#[tactic(auto, using(crate::proofs::DataLaws::said, crate::proofs::DataLaws::uncopied))]
+fn copies(text: &[u8]) -> Option<Data>
+    ensures { result
+        ≡ option_and_then (λ parts. copies_of (number_of parts.0) (hex_of parts.1)) (cut_at 58 text.now) }
+{
+    let (count, byte) = cut_at(text, b':')?;
+    let count = number(count)?;
+    let byte = byte_of(byte)?;
+    Some(Data::Copies { count, byte })
 }
 
 /// The file of a name, which is not empty.
@@ -79,7 +86,7 @@ fn read_form(
     } else if form == b"text".as_slice() {
         Ok(Some(Data::Bytes(Bytes::of(Vec::from_slice(alloc, text)?))))
     } else if form == b"rep".as_slice() {
-        copies(alloc, text)
+        Ok(copies(text))
     } else if form == b"file".as_slice() {
         file(alloc, files, text)
     } else {

@@ -5,6 +5,7 @@
 
 pub mod batch;
 mod command;
+mod digits;
 pub mod summary;
 
 pub use batch::generate;

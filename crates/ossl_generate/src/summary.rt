@@ -3,7 +3,8 @@
 ghost use Rattle.std.specs.Prelude.{◌≡◌, ◌++◌, IfOk, OnOk};
 ghost use Rattle.ossl_generate.specs.Summary.{batch_line, digest_line, entries_line, is_good, lines_line, summary_text};
 
-use ossl_base::{put_decimal, put_hex};
+use crate::digits::put_decimal;
+use ossl_base::put_hex;
 use sha2::{Digest, Sha256};
 use std::alloc::{AllocError, Global};
 
@@ -34,40 +35,40 @@ pub fn summary_text(alloc: Global, told: &Summary, results: &[u8]) -> Result<Vec
     ensures text { IfOk result (λ text. text.items ≡ summary_text told.now results.now) }
 {
     let mut text = Vec::new(alloc);
-    put_batch(alloc, &mut text, told)?;
-    put_lines(alloc, &mut text, told)?;
-    put_entries(alloc, &mut text, told)?;
+    put_batch(&mut text, told)?;
+    put_lines(&mut text, told)?;
+    put_entries(&mut text, told)?;
     put_digest(alloc, &mut text, results)?;
     Ok(text)
 }
 
-fn put_batch(alloc: Global, out: &mut Vec<u8>, told: &Summary) -> Result<(), AllocError>
+fn put_batch(out: &mut Vec<u8>, told: &Summary) -> Result<(), AllocError>
     ensures { OnOk result (out.new.items ≡ out.old.items ++ batch_line told.now) }
 {
     out.extend_from_slice(b"gen ")?;
-    put_decimal(alloc, out, told.lines)?;
+    put_decimal(out, told.lines)?;
     out.extend_from_slice(b" ")?;
-    put_decimal(alloc, out, told.seed)?;
+    put_decimal(out, told.seed)?;
     out.extend_from_slice(b" callers ")?;
-    put_decimal(alloc, out, told.callers)?;
+    put_decimal(out, told.callers)?;
     out.extend_from_slice(b"\n")
 }
 
-fn put_lines(alloc: Global, out: &mut Vec<u8>, told: &Summary) -> Result<(), AllocError>
+fn put_lines(out: &mut Vec<u8>, told: &Summary) -> Result<(), AllocError>
     ensures { OnOk result (out.new.items ≡ out.old.items ++ lines_line told.now) }
 {
     out.extend_from_slice(b"lines ")?;
-    put_decimal(alloc, out, told.lines)?;
+    put_decimal(out, told.lines)?;
     out.extend_from_slice(b" ok ")?;
-    put_decimal(alloc, out, told.good)?;
+    put_decimal(out, told.good)?;
     out.extend_from_slice(b"\n")
 }
 
-fn put_entries(alloc: Global, out: &mut Vec<u8>, told: &Summary) -> Result<(), AllocError>
+fn put_entries(out: &mut Vec<u8>, told: &Summary) -> Result<(), AllocError>
     ensures { OnOk result (out.new.items ≡ out.old.items ++ entries_line told.now) }
 {
     out.extend_from_slice(b"entries ")?;
-    put_decimal(alloc, out, told.entries)?;
+    put_decimal(out, told.entries)?;
     out.extend_from_slice(b"\n")
 }
 

@@ -16,8 +16,8 @@ use ossl_provider::Boxed;
 use ossl_rows::{Builtin, builtin};
 use ossl_run::replay;
 use std::alloc::{AllocError, Global};
-use std::env;
 use std::process::ExitCode;
+use std::{env, mem};
 
 /// The status for want of memory.
 const NO_MEMORY: u8 = 9;
@@ -37,7 +37,10 @@ fn answer<S: Source, F: Files, K: Sink>(
     let base: Boxed = Box::new(alloc, builtin(alloc, Builtin::Base)?)?;
     let catalogue = Vec::from_array(alloc, [default, legacy, fips, null, base])?;
     let outcome = replay(alloc, words, source, files, sink, catalogue);
-    Ok(outcome.status)
+    let status = outcome.status;
+    // The program ends here: what is left is not freed piece by piece.
+    mem::forget(outcome);
+    Ok(status)
 }
 
 /// Runs the program, and gives its status.

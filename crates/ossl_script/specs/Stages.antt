@@ -1,5 +1,6 @@
 -- Where commands stand while their calls wait, and the courses behind the replies.
 use Rattle.std.specs.Prelude.{◌≡◌, ℕ, ⊤, Option, Some, None, Result, Ok, Err, List, [], ◌∷◌}
+use Rattle.std.specs.declared.alloc.AllocError.{AllocError}
 use Rattle.ossl_commands.specs.declared.command.Command.{Command}
 use Rattle.ossl_codes.specs.declared.code.Code.{Code}
 use Rattle.ossl_op.specs.declared.params.BeginRefused.{BeginRefused}
@@ -127,3 +128,8 @@ abbrev pub IsTold : Result Outcome Halt → Left → Type 0
 IsTold (Ok outcome) course = course ≡ left.Said outcome
 IsTold (Err (Said outcome)) course = course ≡ left.Said outcome
 IsTold (Err NoMemory) course = ⊥
+
+-- likewise of a command that does not halt
+abbrev pub IsSaid : Result Outcome AllocError → Left → Type 0
+IsSaid (Ok outcome) course = course ≡ left.Said outcome
+IsSaid (Err refused) course = ⊥

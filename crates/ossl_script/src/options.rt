@@ -1,6 +1,6 @@
 //! What the words behind the fixed ones of a command say.
 
-ghost use Rattle.std.specs.Prelude.{◌≡◌, IfOk};
+ghost use Rattle.std.specs.Prelude.{◌≡◌, IfOk, OnOk};
 ghost use Rattle.ossl_script.specs.Given.{content_by, data_bytes, default_options, options_of, with_argument};
 
 use ossl_base::text::{Bytes, Text};
@@ -55,19 +55,19 @@ impl Options {
     {
         let mut options = Options::none();
         for argument in arguments {
-            options = options.with(alloc, argument, contents)?;
+            options.add(alloc, argument, contents)?;
         }
         Ok(options)
     }
 
-    /// What these options and one more say.
-    fn with(
-        mut self,
+    /// Adds what one more word says.
+    fn add(
+        &mut self,
         alloc: Global,
         argument: &Argument,
         contents: &[Bytes],
-    ) -> Result<Options, AllocError>
-        ensures { IfOk result (λ options. options ≡ with_argument (content_by contents.now) self argument.now) }
+    ) -> Result<(), AllocError>
+        ensures { OnOk result (self.new ≡ with_argument (content_by contents.now) self.old argument.now) }
     {
         match argument {
             Argument::Piece(_) | Argument::Retain => {}
@@ -88,7 +88,7 @@ impl Options {
             Argument::Mode(mode) => self.params.mode = *mode,
             Argument::Len(len) => self.params.len = Some(u64::from(*len)),
         }
-        Ok(self)
+        Ok(())
     }
 }
 

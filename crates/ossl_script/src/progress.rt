@@ -1,9 +1,9 @@
 //! A caller's lines, worked through from call to call.
 
-ghost use Rattle.std.specs.Prelude.{◌≡◌, ◌∷◌, ◌++◌, ◌<◌, ◌-◌, ◌^◌, [], IfOk, IfSome, List, None, OnErr, OnOk, drop};
+ghost use Rattle.std.specs.Prelude.{◌≡◌, ◌∷◌, ◌++◌, ◌+◌, ◌<◌, ◌-◌, ◌^◌, [], IfOk, IfSome, List, None, OnErr, OnOk, Some, drop};
 ghost use Rattle.std.specs.Prelude.{option_map, vec_capacity, vec_len};
 ghost use Rattle.ossl_commands.specs.declared.command.Line.{Line as TheLine};
-ghost use Rattle.ossl_script.specs.Caller.{Standing, call_in};
+ghost use Rattle.ossl_script.specs.Caller.{Standing, call_in, line_result};
 ghost use Rattle.ossl_script.specs.Given.{content_by};
 ghost use Rattle.ossl_script.specs.Held.{held_after, without_texts};
 ghost use Rattle.ossl_script.specs.Places.{Ascends, held_in};
@@ -12,9 +12,9 @@ ghost use Rattle.ossl_script.specs.Progress.{Answered, Arrives, HasLine, Moves, 
 use crate::bound::Names;
 use crate::caller::{LineResult, Next};
 use crate::commands::{arguments_in, begin};
-use crate::outcome::put_outcome;
+use crate::outcome::{Outcome, put_outcome};
 use crate::resume::resume;
-use crate::stage::{Course, Stage};
+use crate::stage::{Asking, Course, Stage};
 use crate::tokens::{Place, take_answer, without_texts};
 use ossl_base::text::{Bytes, Text};
 use ossl_commands::{Line, OwnLines};
@@ -34,6 +34,41 @@ pub struct Progress {
     pub line: usize,
 }
 
+/// Stands at a call, and gives it.
+fn wait(progress: &mut Progress, asking: Asking) -> Call
+    ensures call { result ≡ asking.call }
+    ensures stage { progress.new ≡ record progress.old { stage = Some asking.stage } }
+{
+    let Asking { call, stage } = asking;
+    progress.stage = Some(stage);
+    call
+}
+
+/// Tells what came of a line, and goes to the next.
+fn tell(
+    alloc: Global,
+    progress: &mut Progress,
+    number: u64,
+    outcome: &Outcome,
+) -> Result<(), AllocError>
+    requires { progress.old.line < 2 ^ 64 - 1 }
+    ensures told { OnOk result (progress.new.told.items
+        ≡ progress.old.told.items ++ line_result number outcome.now ∷ []) }
+    ensures names { OnOk result (progress.new.names ≡ progress.old.names) }
+    ensures idle { OnOk result (progress.new.stage ≡ None) }
+    ensures next { OnOk result (progress.new.line ≡ progress.old.line + 1) }
+{
+    let mut text = Vec::with_capacity(alloc, outcome.room())?;
+    put_outcome(alloc, &mut text, outcome)?;
+    progress.told.push(LineResult {
+        line: number,
+        text: Text::of(text),
+    })?;
+    progress.stage = None;
+    progress.line += 1;
+    Ok(())
+}
+
 /// Tells what came of a line, or stands at its call.
 fn settle(
     alloc: Global,
@@ -45,19 +80,9 @@ fn settle(
     ensures { IfOk result (Settled progress.old progress.new number course) }
 {
     match course {
-        Course::Asks(asking) => {
-            progress.stage = Some(asking.stage);
-            Ok(Some(asking.call))
-        }
+        Course::Asks(asking) => Ok(Some(wait(progress, asking))),
         Course::Said(outcome) => {
-            let mut text = Vec::with_capacity(alloc, outcome.room())?;
-            put_outcome(alloc, &mut text, &outcome)?;
-            progress.told.push(LineResult {
-                line: number,
-                text: Text::of(text),
-            })?;
-            progress.stage = None;
-            progress.line += 1;
+            tell(alloc, progress, number, &outcome)?;
             Ok(None)
         }
     }

@@ -5,7 +5,7 @@ ghost use Rattle.ossl_script.specs.Bindings.{Bindings};
 ghost use Rattle.ossl_script.specs.Commands.{after_fetch, after_giving, after_load, after_open, after_up_ref};
 ghost use Rattle.ossl_script.specs.Given.{content_by, fed_by};
 ghost use Rattle.ossl_script.specs.Names.{Agree};
-ghost use Rattle.ossl_script.specs.Stages.{Leads, Settles, after, opening_with};
+ghost use Rattle.ossl_script.specs.Stages.{IsSaid, Leads, Settles, after, opening_with};
 
 use crate::bound::{Bound, Method, Names, Running, bind, unbind};
 use crate::outcome::Outcome;
@@ -138,6 +138,13 @@ fn given_back(
     Ok(Outcome::of(reply.copy(alloc)?))
 }
 
+/// The course of a command that came to its end.
+fn said(outcome: Result<Outcome, AllocError>) -> Result<Course, AllocError>
+    ensures { IfOk result (IsSaid outcome) }
+{
+    Ok(Course::Said(outcome?))
+}
+
 /// What is left of a command behind the reply to its call.
 pub fn resume(
     alloc: Global,
@@ -152,16 +159,16 @@ pub fn resume(
         (after (fed_by (content_by contents.now) arguments.now) bindings stage reply.now)) }
 {
     match stage {
-        Stage::Load { name } => Ok(Course::Said(loaded(alloc, names, &name, reply)?)),
-        Stage::Fetch { name } => Ok(Course::Said(fetched(alloc, names, &name, reply)?)),
-        Stage::UpRef { name, code } => Ok(Course::Said(doubled(alloc, names, &name, code, reply)?)),
+        Stage::Load { name } => said(loaded(alloc, names, &name, reply)),
+        Stage::Fetch { name } => said(fetched(alloc, names, &name, reply)),
+        Stage::UpRef { name, code } => said(doubled(alloc, names, &name, code, reply)),
         Stage::Open {
             name,
             code,
             inner,
             params,
-        } => Ok(Course::Said(opened(alloc, names, &name, code, inner, params.params(), reply)?)),
-        Stage::GiveBack { name } => Ok(Course::Said(given_back(alloc, names, &name, reply)?)),
+        } => said(opened(alloc, names, &name, code, inner, params.params(), reply)),
+        Stage::GiveBack { name } => said(given_back(alloc, names, &name, reply)),
         Stage::Unbound => Ok(Course::Said(Outcome::of(reply.copy(alloc)?))),
         Stage::Method { request } => fetched_method(alloc, request, reply),
         Stage::Inner {

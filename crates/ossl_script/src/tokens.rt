@@ -1,5 +1,5 @@
 //! The tokens that a caller holds, in a list that ascends: a look-up takes as many steps as the logarithm of its
-//! length.
+//! length. A token that is given back leaves an empty place, which goes when no newer token is held.
 
 ghost use Rattle.std.specs.Prelude.{◌≡◌, ◌<◌, IfOk, vec_capacity, vec_len};
 ghost use Rattle.ossl_state.specs.declared.call.Reply.{Reply as TheReply};
@@ -36,8 +36,8 @@ fn hold(places: &mut Vec<Place>, token: Held)
     };
 }
 
-/// Holds a token no more. Its place is left empty.
-fn give_up(places: &mut Vec<Place>, token: Held)
+/// Leaves the places of a token empty.
+fn empty_places(places: &mut Vec<Place>, token: Held)
     requires ascends { Ascends places.old.items }
     ensures ascends { Ascends places.new.items }
     ensures held { (reply : TheReply)
@@ -53,6 +53,31 @@ fn give_up(places: &mut Vec<Place>, token: Held)
             places[place].kept = false;
         }
     }
+}
+
+/// Drops the places behind the newest token that is still held.
+fn drop_empty(places: &mut Vec<Place>)
+    requires ascends { Ascends places.old.items }
+    ensures ascends { Ascends places.new.items }
+    ensures held { held_in places.new.items ≡ held_in places.old.items }
+{
+    while let Some(place) = places.pop() {
+        if place.kept {
+            places.push_reserved(place);
+            return;
+        }
+    }
+}
+
+/// Holds a token no more. Its place is left empty, and dropped where none behind it is held.
+fn give_up(places: &mut Vec<Place>, token: Held)
+    requires ascends { Ascends places.old.items }
+    ensures ascends { Ascends places.new.items }
+    ensures held { (reply : TheReply)
+        → held_in places.new.items ≡ left_by (give_back_call token) reply (held_in places.old.items) }
+{
+    empty_places(places, token);
+    drop_empty(places);
 }
 
 /// A call without its texts: as much of it as the tokens turn on.

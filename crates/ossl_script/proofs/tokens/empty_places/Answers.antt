@@ -9,7 +9,7 @@ use Rattle.std.specs.Prelude.{slice_set}
 use Rattle.ossl_script.specs.contracts.held.TokenKind.{the_type}
 use Rattle.ossl_script.specs.declared.held.Held.{Held}
 use Rattle.ossl_script.proofs.TokenLaws.{all_gone, ascends_without, emptied, gone_more, held_same, held_without, place_at, stay_apart, without}
-use Rattle.ossl_script.proofs.tokens.give_up.Goals as goal
+use Rattle.ossl_script.proofs.tokens.empty_places.Goals as goal
 
 pub loop-place-init : goal.loop-place-init
 loop-place-init c =

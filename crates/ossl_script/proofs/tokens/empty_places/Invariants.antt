@@ -1,7 +1,7 @@
 use Rattle.std.proofs.Common.{◌≡◌, ◌≤◌, ◌<◌, ◌++◌, ℕ, length, take, drop, map, get_or}
 use Rattle.ossl_script.specs.declared.tokens.Place.{Place}
 use Rattle.ossl_script.proofs.TokenLaws.{without}
-use Rattle.ossl_script.proofs.tokens.give_up.Given as goal
+use Rattle.ossl_script.proofs.tokens.empty_places.Given as goal
 
 abbrev pub invariant-loop-place : goal.invariant-loop-place
 invariant-loop-place l = record {
